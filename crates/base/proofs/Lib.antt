@@ -1,0 +1,4 @@
+-- The laws of tests, of scans and of lists that the other crates cite.
+pub mod Tests
+pub mod Scans
+pub mod Lists

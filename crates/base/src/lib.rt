@@ -1,0 +1,1 @@
+// Scans, rounding and their laws stand in specs/ and proofs/; this crate has no code.

@@ -1,0 +1,12 @@
+-- The meaning of document 01. A reader starts at Limits and goes down: the tables, reading, printing, time, the message.
+pub mod Limits
+pub mod Answer
+pub mod Layout
+pub mod Partitions
+pub mod Segments
+pub mod Text
+pub mod Stamp
+pub mod Print
+pub mod Time
+pub mod Message
+pub mod Examples

@@ -1,0 +1,74 @@
+-- "A stamp may have a partition in front, before the first `/`" (the paper's term: the front part).
+use Prim.Native.Nat.{ℕ, _+_, _-_}
+use mathlib.Core.Bool.{Bool, true, false, _&&_}
+use mathlib.Core.List.{List, [], _∷_}
+use mathlib.Core.Option.{Option, none, some}
+use lib.Dec.{leb, eqb}
+use lib.ListN.{length, getD, take, drop}
+use Rattle.base.specs.Scans.{all, firstBelow}
+use Rattle.rules.specs.Limits.{longestText}
+use Rattle.rules.specs.declared.Layout.{Layout}
+use Rattle.rules.specs.Layout.{layoutOk}
+use Rattle.rules.specs.Partitions.{Partitions, partitionsIn, startOf, endOf, lengthsBefore, partitionsOk}
+use Rattle.rules.specs.Answer.{Answer, answer, refused, unless, andThen}
+use Rattle.rules.specs.Text.{Field, isAllowed, isPresent, valueOf, fieldsOf, fieldsCount}
+
+-- where the first `/` stands
+unfoldable pub slashIn : List ℕ → Option ℕ
+slashIn s = firstBelow (λ i. eqb (getD s i 0) 47) (length s)
+
+-- exactly one field, and digits in it
+abbrev pub onePresent : List Field → Bool
+onePresent [] = false
+onePresent (f ∷ []) = isPresent f
+onePresent (f ∷ g ∷ fs) = false
+
+-- "blanks, digits, blanks"
+unfoldable pub frontOk : List ℕ → Bool
+frontOk s = all isAllowed s && onePresent (fieldsOf s)
+
+-- the number of its one field
+abbrev pub firstValue : List Field → ℕ
+firstValue [] = 0
+firstValue (f ∷ fs) = valueOf f
+
+unfoldable pub frontNumber : List ℕ → ℕ
+frontNumber s = firstValue (fieldsOf s)
+
+-- "start..end, both included, holds the count"
+unfoldable pub holds : Partitions → ℕ → ℕ → Bool
+holds p c i = leb (startOf p i) c && leb c (endOf p i)
+
+-- "The encoded count is the sum of the earlier lengths, plus count, minus start."
+unfoldable pub encodedIn : Partitions → ℕ → ℕ → ℕ
+encodedIn p c i = lengthsBefore p i + (c - startOf p i)
+
+-- Partitions are numbered from 1. "10: partition 0 or above the number there is; 11: count outside the named partition"
+unfoldable pub encodeNamed : Partitions → ℕ → ℕ → Answer ℕ
+encodeNamed p k c =
+    unless 10 (leb 1 k && leb k (partitionsIn p))
+    (unless 11 (holds p c (k - 1))
+    (answer (encodedIn p c (k - 1))))
+
+-- "Without one, the partition is the first whose start..end .. holds the count; refused exactly if no partition holds it."
+unfoldable pub encodeFound : Partitions → ℕ → Option ℕ → Answer ℕ
+encodeFound p c (some i) = answer (encodedIn p c i)
+encodeFound p c none = refused 11
+
+unfoldable pub encodeFirst : Partitions → ℕ → Answer ℕ
+encodeFirst p c = encodeFound p c (firstBelow (holds p c) (partitionsIn p))
+
+-- a stamp by whether it has a `/`: "5; 7; 6; fields ..; the sum's 9; 10; 11"
+unfoldable pub stampAt : Layout → Partitions → List ℕ → Option ℕ → Answer ℕ
+stampAt l p s none = unless 5 (all isAllowed s) (andThen (fieldsCount l (fieldsOf s)) (encodeFirst p))
+stampAt l p s (some i) =
+    unless 5 (frontOk (take i s) && all isAllowed (drop (i + 1) s))
+    (andThen (fieldsCount l (fieldsOf (drop (i + 1) s))) (encodeNamed p (frontNumber (take i s))))
+
+-- The call: a stamp, with or without a partition, to its encoded count. "1, 2; 4; 5; .."
+unfoldable pub readStamp : Layout → Partitions → List ℕ → Answer ℕ
+readStamp l p s =
+    unless 1 (layoutOk l)
+    (unless 2 (partitionsOk l p)
+    (unless 4 (leb (length s) longestText)
+    (stampAt l p s (slashIn s))))
