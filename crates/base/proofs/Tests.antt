@@ -1,6 +1,6 @@
 -- Tests as equations `b ≡ true` and `b ≡ false`: a case split, and the tests of `&&`, `||`, `not`, `allOf`.
 use mathlib.Core.Path.{_≡_, refl, sym, _∙_}
-use mathlib.Core.Bool.{Bool, true, false, not, _&&_, _||_, cond}
+use mathlib.Core.Bool.{Bool, true, false, not, _&&_, _||_, true≢false}
 use mathlib.Core.List.{List, [], _∷_}
 use Rattle.base.specs.Scans.{allOf}
 
@@ -9,15 +9,7 @@ by-test true t f = t refl
 by-test false t f = f refl
 
 pub not-both : {b : Bool} → b ≡ true → b ≡ false → ⊥
-not-both {b} t f = let z : true ≡ false = cc in true-is-not-false z
-  where
-    code : Bool → Type 0
-    code true = Unit
-    code false = ⊥
-
-    true-is-not-false : true ≡ false → ⊥
-    unfolding code
-    true-is-not-false e = mathlib.Core.Path.subst code e tt
+not-both {b} t f = let z : true ≡ false = cc in true≢false z
 
 pub and-both : {a b : Bool} → a ≡ true → b ≡ true → (a && b) ≡ true
 and-both {a} {b} p q = rw (p, q)
@@ -66,9 +58,9 @@ pub all-of-tail : (t : Bool) (ts : List Bool) → allOf (t ∷ ts) ≡ true → 
 unfolding allOf
 all-of-tail t ts h = and-second t (allOf ts) h
 
-pub all-of-cons : {t : Bool} {ts : List Bool} → t ≡ true → allOf ts ≡ true → allOf (t ∷ ts) ≡ true
+pub all-of-cons : {t : Bool} (ts : List Bool) → t ≡ true → allOf ts ≡ true → allOf (t ∷ ts) ≡ true
 unfolding allOf
-all-of-cons p q = and-both p q
+all-of-cons ts p q = and-both p q
 
 pub all-of-nil : allOf [] ≡ true
 unfolding allOf
