@@ -4,6 +4,7 @@ pub mod Answer
 pub mod Layout
 pub mod Partitions
 pub mod Segments
+pub mod Facts
 pub mod Text
 pub mod Stamp
 pub mod Print

@@ -1,6 +1,6 @@
 -- "Partitions. Two lists, start and end."
 use Prim.Native.Nat.{ℕ, _+_, _-_}
-use mathlib.Core.Bool.{Bool, _&&_}
+use mathlib.Core.Bool.{Bool}
 use mathlib.Core.List.{List, [], _∷_}
 use lib.Dec.{leb, ltb, eqb}
 use lib.ListN.{length, getD}
@@ -40,7 +40,7 @@ totalOf p = lengthsBefore p (partitionsIn p)
 
 -- "Each start is below its end, each end is at most P - 1."
 unfoldable pub partitionOk : Layout → Partitions → ℕ → Bool
-partitionOk l p i = ltb (startOf p i) (endOf p i) && ltb (endOf p i) (productOf l)
+partitionOk l p i = allOf (ltb (startOf p i) (endOf p i) ∷ ltb (endOf p i) (productOf l) ∷ [])
 
 -- "of one length from 1 to 9,999 .. The sum of lengths .. is at most 10^15."
 unfoldable pub partitionsOk : Layout → Partitions → Bool

@@ -53,19 +53,24 @@ lineAt l g i e = later (timeAt g i) (roundUp (rateOf g i * (e - countOf g i)) (u
 
 -- "Counts grow strictly" and "Times grow strictly": row i against the row before it
 unfoldable pub growsAt : Segments → ℕ → Bool
-growsAt g i = eqb i 0 || (ltb (countOf g (i - 1)) (countOf g i) && ltZ (timeAt g (i - 1)) (timeAt g i))
+growsAt g i = eqb i 0 || allOf (ltb (countOf g (i - 1)) (countOf g i) ∷ ltZ (timeAt g (i - 1)) (timeAt g i) ∷ [])
 
 -- "Times .. lie within ±4×10^18. A rate lies from 1,000×MSF to 10^15"
 unfoldable pub rowOk : Layout → Segments → ℕ → Bool
 rowOk l g i =
-    leZ earliestTime (timeAt g i) && leZ (timeAt g i) latestTime && leb (unitOf l) (rateOf g i) && leb (rateOf g i) largestRate
+    allOf
+    (leZ earliestTime (timeAt g i)
+    ∷ leZ (timeAt g i) latestTime
+    ∷ leb (unitOf l) (rateOf g i)
+    ∷ leb (rateOf g i) largestRate
+    ∷ [])
 
 -- "the time reached there by the segment's own line, rounded up, is at most 4×10^18"
 unfoldable pub lineOk : Layout → Partitions → Segments → ℕ → Bool
 lineOk l p g i = leZ (lineAt l g i (segmentEnd p g i)) latestTime
 
 unfoldable pub segmentOk : Layout → Partitions → Segments → ℕ → Bool
-segmentOk l p g i = rowOk l g i && growsAt g i && lineOk l p g i
+segmentOk l p g i = allOf (rowOk l g i ∷ growsAt g i ∷ lineOk l p g i ∷ [])
 
 -- "of one length, 1 to 10,000 .. the last [count] is at most the total"
 unfoldable pub segmentsOk : Layout → Partitions → Segments → Bool

@@ -1,0 +1,173 @@
+-- A table is accepted exactly where its named facts hold, and slots after the n-th do not matter.
+use Prim.Native.Nat.{ℕ, zero, suc, _+_, _-_, _≤_, _<_}
+use mathlib.Core.Path.{_≡_, refl, subst, ap}
+use mathlib.Core.Bool.{Bool, true, false, _&&_, _||_}
+use mathlib.Core.List.{List, [], _∷_}
+use lib.Dec.{leb, ltb, eqb}
+use lib.Signed.{leZ, ltZ}
+use lib.ListN.{length, take}
+use borrow.Author.Tests.{lt-ltb, le-leb, eq-eqb, ne-eqb, ltb-true, leb-true, eqb-true}
+use native.Mathlib.Omega.{arith}
+use native.Mathlib.Numerals.{add-one, sub-one}
+use Rattle.base.specs.Scans.{allOf, allBelow}
+use Rattle.base.proofs.Tests.{and-both, and-first, and-second, or-first, or-second, all-of-head, all-of-tail, all-of-cons, all-of-nil}
+use Rattle.base.proofs.Scans.{all-at, all-from}
+use Rattle.rules.specs.Limits.{
+  mostFields,
+  largestOffset,
+  largestP,
+  largestMSF,
+  lastDelimiter,
+  mostPartitions,
+  largestTotal,
+  mostSegments,
+  earliestTime,
+  latestTime,
+  largestRate,
+}
+use Rattle.rules.specs.declared.Layout.{Layout}
+use Rattle.rules.specs.Layout.{moduliOf, offsetsOf, productOf, msfOf, layoutOk}
+use Rattle.rules.specs.Partitions.{Partitions, partitionsIn, startOf, endOf, totalOf, partitionOk, partitionsOk}
+use Rattle.rules.specs.Segments.{Segments, segmentsIn, countOf, timeAt, rateOf, unitOf, lineAt, segmentEnd, growsAt, rowOk, lineOk, segmentOk, segmentsOk}
+use Rattle.rules.specs.Facts.{LayoutFacts, PartitionFacts, PartitionsFacts, SegmentFacts, Grows, SegmentsFacts}
+
+pub layout-facts : (l : Layout) → layoutOk l ≡ true → LayoutFacts l
+unfolding layoutOk
+layout-facts l h =
+    let h1 = all-of-tail _ _ h in
+    let h2 = all-of-tail _ _ h1 in
+    let h3 = all-of-tail _ _ h2 in
+    let h4 = all-of-tail _ _ h3 in
+    let h5 = all-of-tail _ _ h4 in
+    let h6 = all-of-tail _ _ h5 in
+    let h7 = all-of-tail _ _ h6 in
+    record {
+      fields = leb-true _ _ (all-of-head _ _ h);
+      few-fields = leb-true _ _ (all-of-head _ _ h1);
+      moduli = all-of-head _ _ h2;
+      offsets = all-of-head _ _ h3;
+      product = leb-true _ _ (all-of-head _ _ h4);
+      msf = leb-true _ _ (all-of-head _ _ h5);
+      delimiter-low = leb-true _ _ (all-of-head _ _ h6);
+      delimiter-high = leb-true _ _ (all-of-head _ _ h7);
+    }
+
+pub layout-accepted : (l : Layout) → LayoutFacts l → layoutOk l ≡ true
+unfolding layoutOk allOf
+layout-accepted l f =
+    and-both (le-leb _ _ (f .fields))
+    (and-both (le-leb _ _ (f .few-fields))
+    (and-both (f .moduli)
+    (and-both (f .offsets)
+    (and-both (le-leb _ _ (f .product))
+    (and-both (le-leb _ _ (f .msf)) (and-both (le-leb _ _ (f .delimiter-low)) (and-both (le-leb _ _ (f .delimiter-high)) refl)))))))
+
+-- "Slots after the n-th are not looked at."
+pub layout-slots : (l k : Layout) → l .n ≡ k .n → moduliOf l ≡ moduliOf k → offsetsOf l ≡ offsetsOf k → l .delimiter ≡ k .delimiter → layoutOk l ≡ layoutOk k
+unfolding layoutOk productOf msfOf
+layout-slots l k en em eo ed = rw (em, eo, en, ed)
+
+pub partition-facts : (l : Layout) (p : Partitions) (i : ℕ) → partitionOk l p i ≡ true → PartitionFacts l p i
+unfolding partitionOk
+partition-facts l p i h = record { ordered = ltb-true _ _ (all-of-head _ _ h); in-range = ltb-true _ _ (all-of-head _ _ (all-of-tail _ _ h)) }
+
+pub partition-accepted : (l : Layout) (p : Partitions) (i : ℕ) → PartitionFacts l p i → partitionOk l p i ≡ true
+unfolding partitionOk allOf
+partition-accepted l p i f = and-both (lt-ltb _ _ (f .ordered)) (and-both (lt-ltb _ _ (f .in-range)) refl)
+
+pub partitions-facts : (l : Layout) (p : Partitions) → partitionsOk l p ≡ true → PartitionsFacts l p
+unfolding partitionsOk
+partitions-facts l p h =
+    let h1 = all-of-tail _ _ h in
+    let h2 = all-of-tail _ _ h1 in
+    let h3 = all-of-tail _ _ h2 in
+    let h4 = all-of-tail _ _ h3 in
+    record {
+      one-length = eqb-true _ _ (all-of-head _ _ h);
+      some = leb-true _ _ (all-of-head _ _ h1);
+      few = leb-true _ _ (all-of-head _ _ h2);
+      each = λ i b. partition-facts l p i (all-at (partitionOk l p) (partitionsIn p) i (all-of-head _ _ h3) b);
+      total = leb-true _ _ (all-of-head _ _ h4);
+    }
+
+pub partitions-accepted : (l : Layout) (p : Partitions) → PartitionsFacts l p → partitionsOk l p ≡ true
+unfolding partitionsOk allOf
+partitions-accepted l p f =
+    and-both (eq-eqb _ _ (f .one-length))
+    (and-both (le-leb _ _ (f .some))
+    (and-both (le-leb _ _ (f .few))
+    (and-both (all-from (partitionOk l p) (partitionsIn p) (λ i b. partition-accepted l p i (f .each i b)))
+    (and-both (le-leb _ _ (f .total)) refl))))
+
+module _ (l : Layout) (p : Partitions) (g : Segments) where
+  segment-facts : (i : ℕ) → segmentOk l p g i ≡ true → SegmentFacts l p g i
+  unfolding segmentOk rowOk lineOk
+  segment-facts i h =
+      let r = all-of-head _ _ h in
+      let r1 = all-of-tail _ _ r in
+      let r2 = all-of-tail _ _ r1 in
+      let r3 = all-of-tail _ _ r2 in
+      record {
+        early = all-of-head _ _ r;
+        late = all-of-head _ _ r1;
+        rate-low = leb-true _ _ (all-of-head _ _ r2);
+        rate-high = leb-true _ _ (all-of-head _ _ r3);
+        line = all-of-head _ _ (all-of-tail _ _ (all-of-tail _ _ h));
+      }
+
+  grow-facts : (i : ℕ) → growsAt g (i + 1) ≡ true → Grows g i
+  unfolding growsAt
+  grow-facts i h = split (rw (ne-eqb (i + 1) 0 (λ e. omega arith), before) at h)
+    where
+      before : i + 1 - 1 ≡ i
+      before = omega arith
+
+      split : allOf (ltb (countOf g i) (countOf g (i + 1)) ∷ ltZ (timeAt g i) (timeAt g (i + 1)) ∷ []) ≡ true → Grows g i
+      split w = record { counts = ltb-true _ _ (all-of-head _ _ w); times = all-of-head _ _ (all-of-tail _ _ w) }
+
+  grown : (i : ℕ) → Grows g i → growsAt g (i + 1) ≡ true
+  unfolding growsAt allOf
+  grown i w = or-second (eqb (i + 1) 0) (rw before (and-both (lt-ltb _ _ (w .counts)) (and-both (w .times) refl)))
+    where
+      before : i + 1 - 1 ≡ i
+      before = omega arith
+
+  grow-accepted : ((i : ℕ) → i + 1 < segmentsIn g → Grows g i) → (i : ℕ) → i < segmentsIn g → growsAt g i ≡ true
+  unfolding growsAt
+  grow-accepted f zero b = refl
+  grow-accepted f (suc i) b = rw add-one at (grown i (f i (omega arith)))
+
+  pub segments-facts : segmentsOk l p g ≡ true → SegmentsFacts l p g
+  unfolding segmentsOk segmentOk
+  segments-facts h =
+      let h1 = all-of-tail _ _ h in
+      let h2 = all-of-tail _ _ h1 in
+      let h3 = all-of-tail _ _ h2 in
+      let h4 = all-of-tail _ _ h3 in
+      let h5 = all-of-tail _ _ h4 in
+      let rows = all-of-head _ _ h5 in
+      record {
+        times-length = eqb-true _ _ (all-of-head _ _ h);
+        rates-length = eqb-true _ _ (all-of-head _ _ h1);
+        some = leb-true _ _ (all-of-head _ _ h2);
+        few = leb-true _ _ (all-of-head _ _ h3);
+        last = leb-true _ _ (all-of-head _ _ h4);
+        each = λ i b. segment-facts i (all-at (segmentOk l p g) (segmentsIn g) i rows b);
+        grow = λ i b. grow-facts i (all-of-head _ _ (all-of-tail _ _ (all-at (segmentOk l p g) (segmentsIn g) (i + 1) rows b)));
+      }
+
+  pub segments-accepted : SegmentsFacts l p g → segmentsOk l p g ≡ true
+  unfolding segmentsOk segmentOk rowOk lineOk allOf
+  segments-accepted f =
+      and-both (eq-eqb _ _ (f .times-length))
+      (and-both (eq-eqb _ _ (f .rates-length))
+      (and-both (le-leb _ _ (f .some))
+      (and-both (le-leb _ _ (f .few))
+      (and-both (le-leb _ _ (f .last)) (and-both (all-from (segmentOk l p g) (segmentsIn g) row) refl)))))
+    where
+      row : (i : ℕ) → i < segmentsIn g → segmentOk l p g i ≡ true
+      row i b =
+          let s = f .each i b in
+          and-both
+          (and-both (s .early) (and-both (s .late) (and-both (le-leb _ _ (s .rate-low)) (and-both (le-leb _ _ (s .rate-high)) refl))))
+          (and-both (grow-accepted (f .grow) i b) (and-both (s .line) refl))

@@ -1,0 +1,2 @@
+-- Laws about the definitions alone.
+pub mod Accepted
