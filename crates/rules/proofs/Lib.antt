@@ -1,2 +1,3 @@
 -- Laws about the definitions alone.
 pub mod Accepted
+pub mod Rows

@@ -11,3 +11,4 @@ pub mod Print
 pub mod Time
 pub mod Message
 pub mod Examples
+pub mod Edges

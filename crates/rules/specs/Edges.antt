@@ -1,0 +1,173 @@
+-- Each limit of the three tables, accepted at the limit and refused one beyond, as one table with one statement.
+-- The question is whether a table steps back: `answer` means accepted. The limits on rows are in proofs/Rows.antt, for every number of rows.
+use Prim.Native.Nat.{ℕ, zero, suc, _+_, _-_, _*_, _^_}
+use mathlib.Core.Path.{_≡_, refl}
+use mathlib.Core.Bool.{Bool, true, false}
+use mathlib.Core.List.{List, [], _∷_, _++_, map}
+use lib.IntN.{ℤ, pos, negsuc}
+use lib.ListN.{replicate, length, take}
+use Rattle.base.specs.Scans.{allOf, allBelow, someBelow, all, product, sumBelow}
+use Rattle.base.specs.Rounding.{roundUp}
+use Rattle.base.specs.Signed.{later}
+use Rattle.rules.specs.declared.Layout.{Layout}
+use Rattle.rules.specs.Answer.{Answer, answer, refused, unless}
+use Rattle.rules.specs.Layout.{layoutOk, productOf, msfOf}
+use Rattle.rules.specs.Partitions.{Partitions, partitions, partitionsOk, partitionOk, totalOf, lengthsBefore}
+use Rattle.rules.specs.Segments.{
+  Segments,
+  segments,
+  segmentsOk,
+  segmentOk,
+  rowOk,
+  growsAt,
+  lineOk,
+  lineAt,
+  segmentEnd,
+  unitOf,
+  stepsBack,
+  stepsBackAt,
+}
+use Rattle.rules.specs.Time.{stepsBackIn, accepted}
+use Rattle.rules.specs.Examples.{layoutA, partitionsA, segmentsA}
+
+-- ten slots, the given numbers first and 0 after them
+slots : List ℕ → List ℕ
+slots xs = take 10 (xs ++ replicate 10 0)
+
+layout : ℕ → List ℕ → List ℕ → ℕ → Layout
+layout n ms os d = record { n = n; moduli = slots ms; offsets = slots os; delimiter = d }
+
+-- table A's layout with other moduli, with another second offset, with another delimiter
+moduli : List ℕ → Layout
+moduli ms = layout (length ms) ms [] 1
+
+offset : ℕ → Layout
+offset o = layout 2 (100 ∷ 10 ∷ []) (0 ∷ o ∷ []) 1
+
+delimiter : ℕ → Layout
+delimiter d = layout 2 (100 ∷ 10 ∷ []) [] d
+
+-- f 0, .., f (n - 1)
+unfoldable pub tabulate : {A : Type 0} → (ℕ → A) → ℕ → List A
+tabulate f zero = []
+tabulate f (suc n) = f 0 ∷ tabulate (λ i. f (i + 1)) n
+
+-- n partitions 0..1; n segments, a tick each and 1 ms apart. proofs/Rows.antt: accepted exactly from 1 to 9,999 and from 1 to 10,000
+unfoldable pub manyPartitions : ℕ → Partitions
+manyPartitions n = partitions (tabulate (λ i. 0) n) (tabulate (λ i. 1) n)
+
+unfoldable pub manySegments : ℕ → Segments
+manySegments n = segments (tabulate (λ i. i) n) (tabulate (λ i. pos (1_000_000 * i)) n) (tabulate (λ i. 10_000) n)
+
+-- one partition from 0 to an end; one segment at count 0, whose tick is 1 ns at the rate 10,000 in table A's layout
+upTo : ℕ → Partitions
+upTo e = partitions (0 ∷ []) (e ∷ [])
+
+oneSegment : ℤ → ℕ → Segments
+oneSegment t r = segments (0 ∷ []) (t ∷ []) (r ∷ [])
+
+-- table A's segments with the second at another count, at another time
+secondAt : ℕ → ℤ → Segments
+secondAt c t = segments (0 ∷ c ∷ []) (negsuc 999 ∷ t ∷ []) (25_000 ∷ 30_000 ∷ [])
+
+pub record Edge : Type 0 where
+  pub clock : Layout
+  pub spans : Partitions
+  pub rows : Segments
+  pub expected : Answer Bool
+
+edge : Layout → Partitions → Segments → Answer Bool → Edge
+edge l p g a = record { clock = l; spans = p; rows = g; expected = a }
+
+-- accepted, and whether the table steps back
+grows : Answer Bool
+grows = answer false
+
+stepsBackward : Answer Bool
+stepsBackward = answer true
+
+-- the fields' edges, asked with one partition and one segment that fit every layout here
+clockEdge : Layout → Answer Bool → Edge
+clockEdge l a = edge l (upTo 1) (oneSegment (pos 0) (10 ^ 15)) a
+
+-- the partitions' edges
+spanEdge : Partitions → Answer Bool → Edge
+spanEdge p a = edge layoutA p (oneSegment (pos 0) 10_000) a
+
+-- the segments' edges
+rowEdge : Segments → Answer Bool → Edge
+rowEdge g a = edge layoutA partitionsA g a
+
+pub edges : List Edge
+edges =
+    -- table A nowhere steps back, nor with its second segment at 500; at 499 it does and is still accepted
+    rowEdge segmentsA grows
+    ∷ rowEdge (secondAt 600 (pos 500)) grows
+    ∷ rowEdge (secondAt 600 (pos 499)) stepsBackward
+    -- n
+    ∷ clockEdge (layout 0 (100 ∷ 10 ∷ []) [] 1) (refused 1)
+    ∷ clockEdge (layout 1 (100 ∷ 10 ∷ []) [] 1) grows
+    ∷ clockEdge (layout 10 (2 ∷ 2 ∷ 2 ∷ 2 ∷ 2 ∷ 2 ∷ 2 ∷ 2 ∷ 2 ∷ 2 ∷ []) [] 1) grows
+    ∷ clockEdge (layout 11 (2 ∷ 2 ∷ 2 ∷ 2 ∷ 2 ∷ 2 ∷ 2 ∷ 2 ∷ 2 ∷ 2 ∷ []) [] 1) (refused 1)
+    -- a modulus, an offset; slots after the n-th are not looked at
+    ∷ clockEdge (moduli (100 ∷ 0 ∷ [])) (refused 1)
+    ∷ clockEdge (moduli (100 ∷ 1 ∷ [])) grows
+    ∷ clockEdge (offset 1_000) grows
+    ∷ clockEdge (offset 1_001) (refused 1)
+    ∷ clockEdge (layout 2 (100 ∷ 10 ∷ (2 ^ 64 - 1) ∷ []) (0 ∷ 0 ∷ (2 ^ 64 - 1) ∷ []) 1) grows
+    -- P and MSF, and products that wrap in 64 bits
+    ∷ clockEdge (moduli ((10 ^ 15) ∷ [])) grows
+    ∷ clockEdge (moduli ((10 ^ 15 + 1) ∷ [])) (refused 1)
+    ∷ clockEdge (moduli (1_000 ∷ (10 ^ 12) ∷ [])) grows
+    ∷ clockEdge (moduli (1 ∷ (10 ^ 12 + 1) ∷ [])) (refused 1)
+    ∷ clockEdge (moduli ((2 ^ 32) ∷ (2 ^ 32) ∷ [])) (refused 1)
+    ∷ clockEdge (moduli ((2 ^ 63) ∷ 2 ∷ [])) (refused 1)
+    -- the delimiter
+    ∷ clockEdge (delimiter 0) (refused 1)
+    ∷ clockEdge (delimiter 1) grows
+    ∷ clockEdge (delimiter 5) grows
+    ∷ clockEdge (delimiter 6) (refused 1)
+    -- no partition, lists of one length, a start at its end, an end at P, the total
+    ∷ spanEdge (partitions [] []) (refused 2)
+    ∷ spanEdge (partitions (0 ∷ 0 ∷ []) (1 ∷ [])) (refused 2)
+    ∷ spanEdge (partitions (0 ∷ []) (1 ∷ 1 ∷ [])) (refused 2)
+    ∷ spanEdge (partitions (5 ∷ []) (6 ∷ [])) grows
+    ∷ spanEdge (partitions (5 ∷ []) (5 ∷ [])) (refused 2)
+    ∷ spanEdge (partitions (6 ∷ []) (5 ∷ [])) (refused 2)
+    ∷ spanEdge (upTo 999) grows
+    ∷ spanEdge (upTo 1_000) (refused 2)
+    ∷ edge (moduli ((10 ^ 15) ∷ [])) (partitions (0 ∷ 0 ∷ []) ((10 ^ 15 - 1) ∷ 1 ∷ [])) (oneSegment (pos 0) 1_000) grows
+    ∷ edge (moduli ((10 ^ 15) ∷ [])) (partitions (0 ∷ 0 ∷ []) ((10 ^ 15 - 1) ∷ 2 ∷ [])) (oneSegment (pos 0) 1_000) (refused 2)
+    -- no segment, lists of one length
+    ∷ rowEdge (segments [] [] []) (refused 3)
+    ∷ rowEdge (segments (0 ∷ []) [] (10_000 ∷ [])) (refused 3)
+    ∷ rowEdge (segments (0 ∷ []) (pos 0 ∷ []) []) (refused 3)
+    -- counts and times grow strictly; a segment may begin at the total
+    ∷ rowEdge (secondAt 0 (pos 1_000)) (refused 3)
+    ∷ rowEdge (secondAt 1 (negsuc 999)) (refused 3)
+    ∷ rowEdge (secondAt 1_200 (pos 5_000)) grows
+    ∷ rowEdge (secondAt 1_201 (pos 5_000)) (refused 3)
+    -- the rate: 1,000×MSF is 10,000
+    ∷ rowEdge (oneSegment (pos 0) 9_999) (refused 3)
+    ∷ rowEdge (oneSegment (pos 0) 10_000) grows
+    ∷ rowEdge (oneSegment (pos 0) (10 ^ 15)) grows
+    ∷ rowEdge (oneSegment (pos 0) (10 ^ 15 + 1)) (refused 3)
+    -- times at ±4×10^18; a line that reaches it, and one more; a line rounded up reaches one more
+    ∷ rowEdge (oneSegment (negsuc (4 * 10 ^ 18 - 1)) 10_000) grows
+    ∷ rowEdge (oneSegment (negsuc (4 * 10 ^ 18)) 10_000) (refused 3)
+    ∷ rowEdge (secondAt 1_200 (pos (4 * 10 ^ 18))) grows
+    ∷ rowEdge (secondAt 1_200 (pos (4 * 10 ^ 18 + 1))) (refused 3)
+    ∷ rowEdge (oneSegment (pos (4 * 10 ^ 18 - 1_200)) 10_000) grows
+    ∷ rowEdge (oneSegment (pos (4 * 10 ^ 18 - 1_200)) 10_001) (refused 3)
+    ∷ rowEdge (oneSegment (pos (4 * 10 ^ 18 - 1_199)) 10_000) (refused 3)
+    -- a quotient of some 10^30, before any bound is known
+    ∷ rowEdge (segments (0 ∷ (2 ^ 64 - 1) ∷ []) (pos 0 ∷ pos 1 ∷ []) ((10 ^ 15) ∷ (10 ^ 15) ∷ [])) (refused 3)
+    ∷ []
+
+pub total-A : totalOf partitionsA ≡ 1_200
+unfolding totalOf lengthsBefore sumBelow partitionsA
+total-A = refl
+
+pub edges-hold : map (λ e. stepsBackIn (e .clock) (e .spans) (e .rows)) edges ≡ map (λ e. e .expected) edges
+unfolding allOf allBelow someBelow all product sumBelow roundUp later unless layoutOk productOf msfOf partitionsOk partitionOk totalOf lengthsBefore segmentsOk segmentOk rowOk growsAt lineOk lineAt segmentEnd unitOf stepsBack stepsBackAt stepsBackIn accepted layoutA partitionsA segmentsA slots layout moduli offset delimiter upTo oneSegment secondAt edge grows stepsBackward clockEdge spanEdge rowEdge edges
+edges-hold = refl
