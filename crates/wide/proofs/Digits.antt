@@ -8,7 +8,7 @@ use native.Mathlib.Omega.{arith}
 use borrow.Author.Tests.{lt-ltb, le-ltb, lt-leb, le-leb, leb-true, leb-false, ltb-true, ltb-false}
 use lib.Dec.{leb, ltb}
 
-by-test : {A : Type 0} (b : Bool) → (b ≡ true → A) → (b ≡ false → A) → A
+pub by-test : {A : Type 0} (b : Bool) → (b ≡ true → A) → (b ≡ false → A) → A
 by-test true t f = t refl
 by-test false t f = f refl
 
