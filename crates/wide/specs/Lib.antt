@@ -1,0 +1,4 @@
+pub mod Wide
+pub mod Rounding
+pub mod Quotient
+pub mod Steps
