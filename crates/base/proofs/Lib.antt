@@ -2,3 +2,4 @@
 pub mod Tests
 pub mod Scans
 pub mod Lists
+pub mod Rounding
