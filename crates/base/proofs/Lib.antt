@@ -3,3 +3,4 @@ pub mod Tests
 pub mod Scans
 pub mod Lists
 pub mod Rounding
+pub mod Signed

@@ -1,6 +1,6 @@
--- Signed numbers, as a time is: a time so much later, and how much later one time is than another.
-use Prim.Native.Nat.{ℕ}
-use lib.IntN.{ℤ, pos, natAbs, _+ℤ_, _-ℤ_}
+-- Signed numbers, as a time is: a time so much later, how much later one time is than another, and a time as an unsigned number.
+use Prim.Native.Nat.{ℕ, suc, _+_, _-_}
+use lib.IntN.{ℤ, pos, negsuc, natAbs, _+ℤ_, _-ℤ_}
 
 -- d after t
 unfoldable pub later : ℤ → ℕ → ℤ
@@ -9,3 +9,8 @@ later t d = t +ℤ pos d
 -- how long after s the time t is, where s is at most t
 unfoldable pub elapsed : ℤ → ℤ → ℕ
 elapsed s t = natAbs (t -ℤ s)
+
+-- z in offset binary: its distance from -b, the least of the numbers that are meant
+unfoldable pub ordinal : ℕ → ℤ → ℕ
+ordinal b (pos n) = b + n
+ordinal b (negsuc n) = b - suc n

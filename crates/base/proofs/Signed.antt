@@ -1,0 +1,81 @@
+-- Signed numbers from -b to b - 1 as unsigned ones: order, sum and difference are those of their ordinals.
+use Prim.Native.Nat.{ℕ, zero, suc, _+_, _-_, _≤_, _<_}
+use mathlib.Core.Path.{_≡_, refl, sym, _∙_, ap}
+use mathlib.Core.Bool.{Bool, true, false, cond, true≢false}
+use lib.IntN.{ℤ, pos, negsuc, natAbs, subℕ, _+ℤ_, _-ℤ_}
+use lib.Dec.{leb, ltb}
+use lib.Signed.{mag, leZ, ltZ}
+use borrow.Author.Tests.{le-leb, lt-leb, lt-ltb, le-ltb, leb-true, leb-false, ltb-true, ltb-false}
+use native.Mathlib.Omega.{arith}
+use Rattle.base.specs.Signed.{later, elapsed, ordinal}
+use Rattle.base.proofs.Tests.{by-test, same-test}
+
+module _ (b : ℕ) where
+  pub ordinal-le : (x y : ℤ) → mag x < b → mag y < b → leZ x y ≡ leb (ordinal b x) (ordinal b y)
+  unfolding ordinal
+  ordinal-le (pos m) (pos n) hx hy = same-test (leb m n) (leb (b + m) (b + n)) (λ t. le-leb _ _ (up (leb-true m n t))) (λ t. le-leb m n (down (leb-true (b + m) (b + n) t)))
+    where
+      up : m ≤ n → b + m ≤ b + n
+      up h = omega arith
+
+      down : b + m ≤ b + n → m ≤ n
+      down h = omega arith
+  ordinal-le (pos m) (negsuc n) hx hy = sym (lt-leb (b + m) (b - suc n) (omega arith))
+  ordinal-le (negsuc m) (pos n) hx hy = sym (le-leb (b - suc m) (b + n) (omega arith))
+  ordinal-le (negsuc m) (negsuc n) hx hy = same-test (leb n m) (leb (b - suc m) (b - suc n)) (λ t. le-leb _ _ (up (leb-true n m t))) (λ t. le-leb n m (down (leb-true (b - suc m) (b - suc n) t)))
+    where
+      up : n ≤ m → b - suc m ≤ b - suc n
+      up h = omega arith
+
+      down : b - suc m ≤ b - suc n → n ≤ m
+      down h = omega arith
+
+  pub ordinal-lt : (x y : ℤ) → mag x < b → mag y < b → ltZ x y ≡ ltb (ordinal b x) (ordinal b y)
+  unfolding ordinal
+  ordinal-lt (pos m) (pos n) hx hy = same-test (ltb m n) (ltb (b + m) (b + n)) (λ t. lt-ltb _ _ (up (ltb-true m n t))) (λ t. lt-ltb m n (down (ltb-true (b + m) (b + n) t)))
+    where
+      up : m < n → b + m < b + n
+      up h = omega arith
+
+      down : b + m < b + n → m < n
+      down h = omega arith
+  ordinal-lt (pos m) (negsuc n) hx hy = sym (le-ltb (b + m) (b - suc n) (omega arith))
+  ordinal-lt (negsuc m) (pos n) hx hy = sym (lt-ltb (b - suc m) (b + n) (omega arith))
+  ordinal-lt (negsuc m) (negsuc n) hx hy = same-test (ltb n m) (ltb (b - suc m) (b - suc n)) (λ t. lt-ltb _ _ (up (ltb-true n m t))) (λ t. lt-ltb n m (down (ltb-true (b - suc m) (b - suc n) t)))
+    where
+      up : n < m → b - suc m < b - suc n
+      up h = omega arith
+
+      down : b - suc m < b - suc n → n < m
+      down h = omega arith
+
+  -- a time d later
+  pub ordinal-later : (x : ℤ) (d : ℕ) → mag x < b → ordinal b (later x d) ≡ ordinal b x + d
+  unfolding ordinal later
+  ordinal-later (pos m) d h = omega arith
+  ordinal-later (negsuc m) d h =
+      by-test (ltb d (suc m))
+      (λ t. rw t (less (ltb-true d (suc m) t)))
+      (λ f. rw f (more (ltb-false d (suc m) f)))
+    where
+      less : d < suc m → b - suc (suc m - suc d) ≡ b - suc m + d
+      less l = omega arith
+
+      more : suc m ≤ d → b + (d - suc m) ≡ b - suc m + d
+      more l = omega arith
+
+  -- how much later y is than x
+  pub ordinal-elapsed : (x y : ℤ) → mag x < b → mag y < b → leZ x y ≡ true → elapsed x y ≡ ordinal b y - ordinal b x
+  unfolding ordinal elapsed
+  ordinal-elapsed (pos zero) (pos n) hx hy h = omega arith
+  ordinal-elapsed (pos (suc m)) (pos n) hx hy h = rw (le-ltb n (suc m) (leb-true (suc m) n h)) (omega arith)
+  ordinal-elapsed (pos m) (negsuc n) hx hy h = absurd (true≢false (sym h))
+  ordinal-elapsed (negsuc m) (pos n) hx hy h = omega arith
+  ordinal-elapsed (negsuc m) (negsuc n) hx hy h =
+      rw (le-ltb (suc m) (suc n) (up (leb-true n m h))) (equal (leb-true n m h))
+    where
+      up : n ≤ m → suc n ≤ suc m
+      up l = omega arith
+
+      equal : n ≤ m → suc m - suc n ≡ b - suc n - (b - suc m)
+      equal l = omega arith
