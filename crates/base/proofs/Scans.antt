@@ -5,7 +5,7 @@
 --     first-found, first-missing, first-is, first-none     `firstBelow`
 --     last-found, last-missing, last-is, last-none         `lastBelow`
 --     sum-next, sum-same, sum-up  `sumBelow`
-use Prim.Native.Nat.{ℕ, zero, suc, _+_, _≤_, _<_}
+use Prim.Native.Nat.{ℕ, zero, suc, _+_, _-_, _≤_, _<_}
 use mathlib.Core.Path.{_≡_, refl, sym, subst, _∙_}
 use mathlib.Core.Bool.{Bool, true, false, _&&_, _||_, cond}
 use mathlib.Core.Option.{Option, none, some, Option·none-ne-some, Option·some-ne-none}
@@ -177,6 +177,22 @@ module _ (p : ℕ → Bool) where
   pub last-missing : (n i : ℕ) → lastBelow p n ≡ none → i < n → p i ≡ false
   last-missing n i e l =
       ⊎-elim (λ w. absurd (Option·some-ne-none (w .0) (sym (last-is n (w .0) (w .1)) ∙ e))) (λ f. f i l) (last-or n)
+
+-- one turn of a loop that looks for the last from the top
+module _ (p : ℕ → Bool) where
+  pub last-start : lastBelow p 0 ≡ none
+  unfolding lastBelow
+  last-start = refl
+
+  pub last-here : (n : ℕ) → 0 < n → p (n - 1) ≡ true → lastBelow p n ≡ some (n - 1)
+  unfolding lastBelow
+  last-here zero h t = absurd (omega arith)
+  last-here (suc n) h t = let e : suc n - 1 ≡ n = omega arith in rw (e, rw e at t)
+
+  pub last-down : (n : ℕ) → 0 < n → p (n - 1) ≡ false → lastBelow p n ≡ lastBelow p (n - 1)
+  unfolding lastBelow
+  last-down zero h f = absurd (omega arith)
+  last-down (suc n) h f = let e : suc n - 1 ≡ n = omega arith in rw (e, rw e at f)
 
 -- scans of two tests that agree below n
 pub all-same : (p q : ℕ → Bool) (n : ℕ) → ((i : ℕ) → i < n → p i ≡ q i) → allBelow p n ≡ allBelow q n

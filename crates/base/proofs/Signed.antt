@@ -79,3 +79,11 @@ module _ (b : ℕ) where
 
       equal : n ≤ m → suc m - suc n ≡ b - suc n - (b - suc m)
       equal l = omega arith
+
+  pub ordinal-one : (x y : ℤ) → mag x < b → mag y < b → ordinal b x ≡ ordinal b y → x ≡ y
+  unfolding ordinal
+  ordinal-one (pos m) (pos n) hx hy e = let q : m ≡ n = omega arith in rw q
+  ordinal-one (pos m) (negsuc n) hx hy e = absurd (omega arith)
+  ordinal-one (negsuc m) (pos n) hx hy e = absurd (omega arith)
+  ordinal-one (negsuc m) (negsuc n) hx hy e = let q : m ≡ n = omega arith in rw q
+
