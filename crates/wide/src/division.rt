@@ -6,7 +6,7 @@ ghost use lib.Dec.{eqb};
 ghost use Rattle.wide.specs.Wide.{value};
 ghost use Rattle.wide.specs.Rounding.{roundDown, roundUp};
 ghost use Rattle.wide.specs.Quotient.{fit};
-ghost use Rattle.wide.specs.Steps.{Divided, Length};
+ghost use Rattle.wide.specs.Steps.{Divided, Length, Starts};
 use super::Quotient;
 use super::Wide;
 use super::product::mul;
@@ -15,6 +15,12 @@ use super::product::mul;
 pub struct Division {
     pub quotient: u64,
     pub rest: u64,
+}
+
+// The digits of a number down to the last `count`, as one number, `rest`.
+pub struct Start {
+    pub rest: u64,
+    pub count: u32,
 }
 
 // `a * b / d`, rounded down.
@@ -58,40 +64,39 @@ fn divide(x: Wide, d: u64) -> Division
 {
     let hi = x.hi;
     let lo = x.lo;
-    if hi == 0 {
-        return divide_word(lo, d);
-    }
-    divide_words(hi, lo, d)
+    let from = skip_zeros(hi, lo, d);
+    digits(from.rest, lo, d, from.count)
 }
 
-// One word by `d`: the quotient has no more digits than `x` has above those of `d`, and one.
-fn divide_word(x: u64, d: u64) -> Division
-    requires { ⌜ (0 < d) × (d ≤ 2 ^ 63) ⌝ }
-    ensures { λ r. ⌜ Divided x d (r .quotient) (r .rest) ⌝ }
+// Passes over the zeros in front of the quotient, by the lengths of the two numbers.
+fn skip_zeros(hi: u64, lo: u64, d: u64) -> Start
+    requires { ⌜ (hi < d) × (d ≤ 2 ^ 63) ⌝ }
+    ensures { λ r. ⌜ Starts (hi * 2 ^ 64 + lo) lo d (r .rest) (r .count) ⌝ }
 {
-    let n = bit_length(x);
     let m = bit_length(d);
-    if n < m {
-        return Division {
-            quotient: 0,
-            rest: x,
+    if hi == 0 {
+        let n = bit_length(lo);
+        if n < m {
+            return Start { rest: lo, count: 0 };
+        }
+        let k = n - m;
+        return Start {
+            rest: (lo >> k) / 2,
+            count: k + 1,
         };
     }
-    let k = n - m;
-    digits((x >> k) / 2, x, d, k + 1)
-}
-
-fn divide_words(hi: u64, lo: u64, d: u64) -> Division
-    requires { ⌜ (hi < d) × (d ≤ 2 ^ 63) ⌝ }
-    ensures { λ r. ⌜ Divided (hi * 2 ^ 64 + lo) d (r .quotient) (r .rest) ⌝ }
-{
     let n = bit_length(hi) + 1;
-    let m = bit_length(d);
     if m <= n {
-        return digits(hi, lo, d, 64);
+        return Start {
+            rest: hi,
+            count: 64,
+        };
     }
     let zeros = m - n;
-    digits((hi << zeros) + (lo >> (64 - zeros)), lo, d, 64 - zeros)
+    Start {
+        rest: (hi << zeros) + (lo >> (64 - zeros)),
+        count: 64 - zeros,
+    }
 }
 
 // The digits of `rest` followed by the last `count` of `word`, by `d`: one digit of the quotient a turn.
