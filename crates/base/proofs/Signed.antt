@@ -86,4 +86,3 @@ module _ (b : ℕ) where
   ordinal-one (pos m) (negsuc n) hx hy e = absurd (omega arith)
   ordinal-one (negsuc m) (pos n) hx hy e = absurd (omega arith)
   ordinal-one (negsuc m) (negsuc n) hx hy e = let q : m ≡ n = omega arith in rw q
-

@@ -46,23 +46,19 @@ module _ (hi lo d n m : ℕ) (none : hi ≡ 0) (ln : Length lo n) (lm : Length d
       let parts : lo / 2 ^ k / 2 * 2 ^ (k + 1) + lo % 2 ^ (k + 1) ≡ lo = rw (div-div-eq-div-mul lo (2 ^ k) 2, pow-add 2 k 1) (div-add-mod' lo (2 ^ k * 2)) in
       record { whole = rw none (omega (arith, parts)); small = omega (arith, above, lm .needed); most = omega (arith, shift-lt) }
 
--- two words, of which the first z digits are passed over
-module _ (hi lo d z : ℕ) (room : (hi + 1) * 2 ^ z ≤ d) (top : d ≤ 2 ^ 63) (l : lo < 2 ^ 64) (most : z ≤ 64) where
-  unwrapped : hi * 2 ^ z % 2 ^ 64 ≡ hi * 2 ^ z
-  unwrapped = mod-eq-of-lt (omega (arith, add-mul hi 1 (2 ^ z)))
+-- two words of w digits each, of which the first z digits are passed over
+module _ (w hi lo z : ℕ) (l : lo < 2 ^ w) (most : z ≤ w) where
+  back : z + (w - z) ≡ w
+  back = omega arith
 
-  start-at : Starts (hi * 2 ^ 64 + lo) lo d (hi * 2 ^ z % 2 ^ 64 + lo / 2 ^ (64 - z)) (64 - z)
-  start-at =
-      let y = 2 ^ (64 - z) in
-      let e : z + (64 - z) ≡ 64 = omega arith in
-      let weight : 2 ^ z * y ≡ 2 ^ 64 = sym (pow-add 2 z (64 - z)) ∙ ap (λ (i : ℕ). 2 ^ i) e in
-      let below : lo / y < 2 ^ z = shr-lt z (64 - z) (rw e l) in
-      rw unwrapped
-      (record {
-        whole = omega (arith, add-mul (hi * 2 ^ z) (lo / y) y, rw weight at (mul-assoc hi (2 ^ z) y), div-add-mod' lo y);
-        small = omega (arith, add-mul hi 1 (2 ^ z), one-mul (2 ^ z));
-        most = omega arith;
-      })
+  shifted : (hi * 2 ^ z + lo / 2 ^ (w - z)) * 2 ^ (w - z) + lo % 2 ^ (w - z) ≡ hi * 2 ^ w + lo
+  shifted =
+      let y = 2 ^ (w - z) in
+      let weight : 2 ^ z * y ≡ 2 ^ w = sym (pow-add 2 z (w - z)) ∙ ap (λ (i : ℕ). 2 ^ i) back in
+      omega (arith, add-mul (hi * 2 ^ z) (lo / y) y, rw weight at (mul-assoc hi (2 ^ z) y), div-add-mod' lo y)
+
+  shifted-lt : (d : ℕ) → (hi + 1) * 2 ^ z ≤ d → hi * 2 ^ z + lo / 2 ^ (w - z) < d
+  shifted-lt d room = omega (arith, shr-lt {n = lo} z (w - z) (rw back l), add-mul hi 1 (2 ^ z), one-mul (2 ^ z))
 
 -- the upper word has n digits; the first m - (n + 1) digits of the quotient are 0
 module _ (hi lo d n m : ℕ) (ln : Length hi n) (lm : Length d m) (less : hi < d) (top : d ≤ 2 ^ 63) (l : lo < 2 ^ 64) (gap : n + 1 < m) where
@@ -74,7 +70,11 @@ module _ (hi lo d n m : ℕ) (ln : Length hi n) (lm : Length d m) (less : hi < d
       omega (arith, split, lm .needed, mul-le-mul-right {m = hi + 1} {n = 2 ^ n} (2 ^ z) (omega (arith, ln .enough)))
 
   pub words-start : Starts (hi * 2 ^ 64 + lo) lo d (hi * 2 ^ (m - (n + 1)) % 2 ^ 64 + lo / 2 ^ (64 - (m - (n + 1)))) (64 - (m - (n + 1)))
-  words-start = start-at hi lo d (m - (n + 1)) room top l (omega (arith, lm .word))
+  words-start =
+      let z = m - (n + 1) in
+      let most : z ≤ 64 = omega (arith, lm .word) in
+      let unwrapped : hi * 2 ^ z % 2 ^ 64 ≡ hi * 2 ^ z = mod-eq-of-lt (omega (arith, room, add-mul hi 1 (2 ^ z))) in
+      rw unwrapped (record { whole = shifted 64 hi lo z l most; small = shifted-lt 64 hi lo z l most d room; most = omega arith })
 
   pub words-fit : Fits w64 (hi * 2 ^ (m - (n + 1)) % 2 ^ 64 + lo / 2 ^ (64 - (m - (n + 1))))
   words-fit = record { fits = omega (arith, words-start .small) }

@@ -3,32 +3,38 @@
 use mathlib.Core.Path.{_≡_, ap, _∙_}
 use mathlib.Core.Bool.{cond}
 use Prim.Native.Nat.{ℕ, suc, _+_, _-_, _*_, _/_, _%_, _^_, _≤_, _<_}
-use native.Mathlib.Nat.{lt-of-lt-of-le, le-add-right, mul-comm, mul-left-comm, add-mul, pow-succ', lt-of-mul-lt-mul-right, le-mul-of-pos-right, mod-lt}
+use native.Mathlib.Nat.{lt-of-lt-of-le, le-add-right, mul-comm, mul-left-comm, add-mul, pow-succ', lt-of-mul-lt-mul-right, le-mul-of-pos-right, mod-lt, mod-eq-of-lt, mod-eq-sub-mod, one-mul, div-eq-of-lt, div-eq-of-lt-le}
 use native.Mathlib.Omega.{arith}
-use borrow.Author.Tests.{eqb-true, eqb-false}
+use borrow.Author.Tests.{leb-true, leb-false, ltb-true, ltb-false}
 use lib.Arith.{digits-lt, mod-mul}
-use lib.Dec.{eqb}
+use lib.Dec.{eqb, leb, ltb}
 use lib.Pow.{pow-pos, pow-mono}
 use mir.Syntax.{w64}
 use mir.Val.{Fits}
 use mir.Facts.{fits-le}
 use Rattle.wide.specs.Steps.{Divided}
-use Rattle.wide.proofs.Digits.{by-test}
+use Rattle.base.proofs.Tests.{by-test}
 
--- the sign of the difference t, taken modulo 2^64, tells whether x is below d
-pub by-sign : (x d t r : ℕ) → r ≡ cond (eqb (t / 2 ^ 63) 0) t x → x < d + d → d ≤ 2 ^ 63 → t < 2 ^ 64 → (t + d) % 2 ^ 64 ≡ x → Divided x d (1 - t / 2 ^ 63) r
-by-sign x d t r c h m f e =
+-- the sign of the difference t, taken modulo H + H, tells whether x is below d
+pub by-sign : (H x d t r : ℕ) → r ≡ cond (eqb (t / H) 0) t x → x < d + d → d ≤ H → t < H + H → (t + d) % (H + H) ≡ x → Divided x d (1 - t / H) r
+by-sign H x d t r c h m f e =
     rw c
-    (by-test (eqb (t / 2 ^ 63) 0)
+    (by-test (leb H t)
     (λ y.
-    let zero : t / 2 ^ 63 ≡ 0 = eqb-true (t / 2 ^ 63) 0 y in
-    let sum : t + d ≡ x = omega arith in
-    rw (y, zero) (record { whole = omega arith; small = omega arith }))
+    let above = leb-true H t y in
+    let one : t / H ≡ 1 = div-eq-of-lt-le {k = 1} H (omega (arith, one-mul H)) (omega (arith, add-mul 1 1 H, one-mul H)) in
+    let wrapped : t + d ≡ x + (H + H) =
+    by-test (ltb (t + d) (H + H))
+    (λ l. let same = mod-eq-of-lt (ltb-true (t + d) (H + H) l) in omega arith)
+    (λ g.
+    let over = ltb-false (t + d) (H + H) g in
+    let less : t + d - (H + H) < H + H = omega arith in
+    omega (arith, mod-eq-sub-mod over, mod-eq-of-lt less)) in
+    rw one (record { whole = omega arith; small = omega arith }))
     (λ n.
-    let other = eqb-false (t / 2 ^ 63) 0 n in
-    let one : t / 2 ^ 63 ≡ 1 = omega arith in
-    let sum : t + d ≡ x + 2 ^ 64 = omega arith in
-    rw (n, one) (record { whole = omega arith; small = omega arith })))
+    let below = leb-false H t n in
+    let sum : t + d < H + H = omega arith in
+    rw (div-eq-of-lt below) (record { whole = omega (arith, mod-eq-of-lt sum); small = omega (arith, mod-eq-of-lt sum) })))
 
 -- K is the weight of the digits of w that are still to come
 turn-at : (d w K X q r q₁ r₁ : ℕ) → 0 < K → (q * d + r) * (2 * K) + w % (2 * K) ≡ X → q₁ * d + r₁ ≡ r + r + w / K % 2 → ((q + q + q₁) * d + r₁) * K + w % K ≡ X
@@ -43,10 +49,10 @@ half k pos =
     let e : k ≡ suc (k - 1) = omega arith in
     ap (λ (n : ℕ). 2 ^ n) e ∙ pow-succ' 2 (k - 1)
 
--- q and r are the quotient and the rest so far, with k digits of w to come; q₁ is the next digit of the quotient
-module _ (d w X k q r q₁ r₁ : ℕ) (more : 0 < k) (so-far : (q * d + r) * 2 ^ k + w % 2 ^ k ≡ X) (next : Divided (r + r + w / 2 ^ (k - 1) % 2) d q₁ r₁) where
+-- q and r are the quotient and the rest so far, with k digits of w to come, of which b is the next; q₁ is the next digit of the quotient
+module _ (d w X k q r b q₁ r₁ : ℕ) (more : 0 < k) (so-far : (q * d + r) * 2 ^ k + w % 2 ^ k ≡ X) (is : b ≡ w / 2 ^ (k - 1) % 2) (next : Divided (r + r + b) d q₁ r₁) where
   pub turn : ((q + q + q₁) * d + r₁) * 2 ^ (k - 1) + w % 2 ^ (k - 1) ≡ X
-  turn = turn-at d w (2 ^ (k - 1)) X q r q₁ r₁ (pow-pos (k - 1)) (rw (half k more) at so-far) (next .whole)
+  turn = turn-at d w (2 ^ (k - 1)) X q r q₁ r₁ (pow-pos (k - 1)) (rw (half k more) at so-far) (rw is at (next .whole))
 
 pub last-turn : (d w X k q r : ℕ) → k ≤ 0 → (q * d + r) * 2 ^ k + w % 2 ^ k ≡ X → r < d → Divided X d q r
 last-turn d w X k q r end e h =
@@ -57,11 +63,11 @@ last-turn d w X k q r end e h =
 below-weight : (d N K X q r y : ℕ) → 0 < K → (q * d + r) * K + y ≡ X → X < d * N → q < N
 below-weight d N K X q r y pos e h = lt-of-mul-lt-mul-right d (omega (arith, le-mul-of-pos-right {m = K} (q * d + r) pos, mul-comm d N))
 
-module _ (rest w d n k q r q₁ r₁ : ℕ) (small : rest < d) (count : n ≤ 64) (more : 0 < k) (so-far : (q * d + r) * 2 ^ k + w % 2 ^ k ≡ rest * 2 ^ n + w % 2 ^ n)
-    (next : Divided (r + r + w / 2 ^ (k - 1) % 2) d q₁ r₁) where
+module _ (rest w d n k q r b q₁ r₁ : ℕ) (small : rest < d) (count : n ≤ 64) (more : 0 < k) (so-far : (q * d + r) * 2 ^ k + w % 2 ^ k ≡ rest * 2 ^ n + w % 2 ^ n)
+    (is : b ≡ w / 2 ^ (k - 1) % 2) (next : Divided (r + r + b) d q₁ r₁) where
   pub quotient-fits : Fits w64 (q + q + q₁)
   quotient-fits =
-      record { fits = lt-of-lt-of-le (below-weight d (2 ^ n) (2 ^ (k - 1)) _ (q + q + q₁) r₁ _ (pow-pos (k - 1)) (turn d w _ k q r q₁ r₁ more so-far next) (digits-lt small (mod-lt w (pow-pos n)))) (pow-mono count) }
+      record { fits = lt-of-lt-of-le (below-weight d (2 ^ n) (2 ^ (k - 1)) _ (q + q + q₁) r₁ _ (pow-pos (k - 1)) (turn d w _ k q r b q₁ r₁ more so-far is next) (digits-lt small (mod-lt w (pow-pos n)))) (pow-mono count) }
 
   pub double-fits : Fits w64 (q + q)
   double-fits = fits-le (le-add-right (q + q) q₁) quotient-fits

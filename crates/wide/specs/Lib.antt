@@ -1,4 +1,3 @@
 pub mod Wide
-pub mod Rounding
 pub mod Quotient
 pub mod Steps

@@ -1,10 +1,11 @@
 // Quotients of a two-word product by one word, by shift and subtract: no divide, no remainder.
+// The divisor is at most 2^63, so that twice a rest fits a word.
 ghost use mathlib.Core.Path.{_≡_};
 ghost use mathlib.Core.Bool.{cond};
-ghost use Prim.Native.Nat.{_+_, _*_, _%_, _^_, _≤_, _<_};
+ghost use Prim.Native.Nat.{_+_, _*_, _/_, _%_, _^_, _≤_, _<_};
 ghost use lib.Dec.{eqb};
 ghost use Rattle.wide.specs.Wide.{value};
-ghost use Rattle.wide.specs.Rounding.{roundDown, roundUp};
+ghost use Rattle.base.specs.Rounding.{roundDown, roundUp};
 ghost use Rattle.wide.specs.Quotient.{fit};
 ghost use Rattle.wide.specs.Steps.{Divided, Length, Starts};
 use super::Quotient;
@@ -12,15 +13,15 @@ use super::Wide;
 use super::product::mul;
 
 // A whole quotient, and the rest.
-pub struct Division {
-    pub quotient: u64,
-    pub rest: u64,
+struct Division {
+    quotient: u64,
+    rest: u64,
 }
 
 // The digits of a number down to the last `count`, as one number, `rest`.
-pub struct Start {
-    pub rest: u64,
-    pub count: u32,
+struct Start {
+    rest: u64,
+    count: u32,
 }
 
 // `a * b / d`, rounded down.
@@ -81,7 +82,7 @@ fn skip_zeros(hi: u64, lo: u64, d: u64) -> Start
         }
         let k = n - m;
         return Start {
-            rest: (lo >> k) / 2,
+            rest: lo >> k >> 1,
             count: k + 1,
         };
     }
@@ -109,7 +110,7 @@ fn digits(rest: u64, word: u64, d: u64, count: u32) -> Division
     let mut k = count;
     while 0 < k {
         k = k - 1;
-        let by = digit(left + left + (word >> k) % 2, d);
+        let by = digit(left + left + bit(word, k), d);
         quotient = quotient + quotient + by.quotient;
         left = by.rest;
     }
@@ -130,6 +131,14 @@ fn digit(x: u64, d: u64) -> Division
         quotient: 1 - less,
         rest: either(less, difference, x),
     }
+}
+
+// The binary digit of `word` with the weight 2^k.
+fn bit(word: u64, k: u32) -> u64
+    requires { ⌜ k < 64 ⌝ }
+    ensures { λ r. ⌜ r ≡ word / 2 ^ k % 2 ⌝ }
+{
+    (word >> k) & 1
 }
 
 fn either(flag: u64, a: u64, b: u64) -> u64

@@ -1,6 +1,6 @@
 // Exact arithmetic on numbers of two 64-bit words.
-pub mod division;
-pub mod product;
+mod division;
+mod product;
 
 pub use division::div_down;
 pub use division::div_up;
@@ -18,7 +18,7 @@ pub struct Wide {
     pub lo: u64,
 }
 
-// A quotient, or word that it does not fit 64 bits.
+// A quotient in one word: `TooLarge` where it does not fit 64 bits, and where the divisor is 0.
 pub enum Quotient {
     Fits(u64),
     TooLarge,

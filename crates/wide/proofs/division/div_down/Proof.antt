@@ -1,5 +1,5 @@
 use Rattle.wide.specs.Wide.{value}
-use Rattle.wide.proofs.Fit.{down-large, down-divided}
+use Rattle.wide.proofs.Fit.{down-large, down-fits}
 use borrow.Author.Needs.{needs}
 use Rattle.wide.proofs.division.div_down.Statement.{statement}
 use Rattle.wide.proofs.division.div_down.Tie as tie
@@ -9,4 +9,4 @@ unfolding value
 returns c = search (down-large, needs)
 
 pub div-down-spec : {M : Type 1} → statement M
-div-down-spec = tie.close (tie.spec (λ c κs. search needs) returns (λ c κs. search needs) (λ c. search (down-divided, needs)))
+div-down-spec = tie.close (tie.spec (λ c κs. search needs) returns (λ c κs. search needs) (λ c. search (down-fits, needs)))

@@ -1,5 +1,5 @@
 use Rattle.wide.specs.Wide.{value}
-use Rattle.wide.proofs.Fit.{up-large, up-exact, up-more, up-full}
+use Rattle.wide.proofs.Fit.{up-large, up-fits, up-next, up-over}
 use borrow.Author.Needs.{needs}
 use Rattle.wide.proofs.division.div_up.Statement.{statement}
 use Rattle.wide.proofs.division.div_up.Tie as tie
@@ -10,4 +10,4 @@ returns c = search (up-large, needs)
 
 pub div-up-spec : {M : Type 1} → statement M
 div-up-spec =
-    tie.close (tie.spec (λ c κs. search needs) returns (λ c κs. search needs) (λ c. search (up-exact, needs)) (λ c. search (up-full, needs)) (λ c. search needs) (λ c. search (up-more, needs)))
+    tie.close (tie.spec (λ c κs. search needs) returns (λ c κs. search needs) (λ c. search (up-fits, needs)) (λ c. search (up-over, needs)) (λ c. search needs) (λ c. search (up-next, needs)))

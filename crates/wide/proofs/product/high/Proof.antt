@@ -8,6 +8,9 @@ use Rattle.wide.proofs.Words.{digits-fit, middle-fits, upper-fits}
 use Rattle.wide.proofs.product.high.Statement.{statement}
 use Rattle.wide.proofs.product.high.Tie as tie
 
+returns : tie.Need-returns
+returns c = upper-is (2 ^ 32) (c .args .a) (c .args .b) (lit< tt)
+
 mul-p01 : tie.Need-mul-p01
 mul-p01 c = digits-fit (omega arith) (omega arith)
 
@@ -34,9 +37,6 @@ add-result-2 c = fits-le (le-add-right _ _) (add-result-3 c)
 
 add-result : tie.Need-add-result
 add-result c = fits-le (le-add-right _ _) (add-result-2 c)
-
-returns : tie.Need-returns
-returns c = upper-is (2 ^ 32) (c .args .a) (c .args .b) (lit< tt)
 
 pub high-spec : {M : Type 1} → statement M
 high-spec =
