@@ -2,3 +2,5 @@
 pub mod Lists
 pub mod Digits
 pub mod Fields
+pub mod Split
+pub mod Length
