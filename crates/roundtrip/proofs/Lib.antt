@@ -4,3 +4,4 @@ pub mod Digits
 pub mod Fields
 pub mod Split
 pub mod Length
+pub mod Counts

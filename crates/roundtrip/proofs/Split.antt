@@ -11,7 +11,7 @@ use native.Mathlib.Omega.{arith}
 use Rattle.base.specs.Scans.{all, product}
 use Rattle.rules.specs.Limits.{largestOffset, largestP, largestField}
 use Rattle.rules.specs.Answer.{Answer, unless}
-use Rattle.rules.specs.Text.{Field, isPresent, valueOf, ticksOf, sumOf, notAbove, notBelow, eachField}
+use Rattle.rules.specs.Text.{Field, isPresent, firstPresent, valueOf, ticksOf, sumOf, notAbove, notBelow, eachField}
 use Rattle.rules.specs.Print.{fieldPrint}
 use Rattle.roundtrip.proofs.Lists.{all-head, all-tail}
 use Rattle.roundtrip.proofs.Digits.{digitsOf, Prints}
@@ -98,6 +98,10 @@ sum-printed c (m ∷ ms) (o ∷ os) f h =
     rw
     (ticks-printed v o (fieldPrint v m o) (product ms) (field-prints v m o), sum-printed (c % product ms) ms os (g .later) (mod-lt c (g .unit)))
     (div-add-mod' c (product ms))
+
+pub first-printed : (c m : ℕ) (ms : List ℕ) (o : ℕ) (os : List ℕ) → firstPresent (printedFields c (m ∷ ms) (o ∷ os)) ≡ true
+unfolding printedFields
+first-printed c m ms o os = present _ _ (field-prints (c / product ms) m o)
 
 pub length-printed : (c : ℕ) (ms os : List ℕ) → length (printedFields c ms os) ≤ length ms
 unfolding printedFields
