@@ -5,3 +5,5 @@ pub mod Fields
 pub mod Split
 pub mod Length
 pub mod Counts
+pub mod Encoded
+pub mod Stamps

@@ -60,7 +60,7 @@ pub quotient-below : (c m : ℕ) (ms : List ℕ) → 1 ≤ product ms → c < pr
 unfolding product
 quotient-below c m ms u h = div-lt-iff-lt-mul {k = product ms} {x = c} {y = m} u .1 h
 
-present : (x : ℕ) (s : List ℕ) → Prints x s → isPresent (digitsOf s) ≡ true
+pub present : (x : ℕ) (s : List ℕ) → Prints x s → isPresent (digitsOf s) ≡ true
 unfolding digitsOf
 present x [] p = absurd (omega (arith, p .some))
 present x (b ∷ s) p = refl
