@@ -1,5 +1,6 @@
 -- The theorems of specs/, and the laws that lead to them.
 pub mod Lists
+pub mod Answers
 pub mod Digits
 pub mod Fields
 pub mod Split
@@ -7,3 +8,6 @@ pub mod Length
 pub mod Counts
 pub mod Encoded
 pub mod Stamps
+pub mod Unnamed
+pub mod Ends
+pub mod Buffers
