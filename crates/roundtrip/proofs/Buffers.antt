@@ -14,7 +14,7 @@ use Rattle.rules.specs.Partitions.{Partitions, totalOf, partitionsOk}
 use Rattle.rules.specs.Text.{readText}
 use Rattle.rules.specs.Stamp.{readStamp}
 use Rattle.rules.specs.Print.{countPrint, stampPrint, fitting, printCount, printStamp, lengthPrinted, bufferAfter}
-use Rattle.roundtrip.specs.RoundTrip.{TenSlots, CountCallsAgree, StampCallsAgree}
+use Rattle.roundtrip.specs.RoundTrip.{TenSlots, CountCallReadsBack, StampCallReadsBack}
 use Rattle.roundtrip.proofs.Answers.{not-answer, unless-test, unless-rest}
 use Rattle.roundtrip.proofs.Counts.{count-reads-back}
 use Rattle.roundtrip.proofs.Stamps.{stamp-reads-back}
@@ -44,8 +44,8 @@ stamp-printed l p e room s t h =
     let q : s ≡ stampPrint l p e = cc in
     rw q (stamp-reads-back l p t (unless-test 1 _ _ s h) (unless-test 2 _ _ s h1) e (leb-true e (totalOf p) (unless-test 12 _ _ s h2)))
 
-pub count-calls-agree : CountCallsAgree
-count-calls-agree l t c buffer n h = count-printed l c (length buffer) _ t (front (printCount l c (length buffer)) buffer n h)
+pub count-call-reads-back : CountCallReadsBack
+count-call-reads-back l t c buffer n h = count-printed l c (length buffer) _ t (front (printCount l c (length buffer)) buffer n h)
 
-pub stamp-calls-agree : StampCallsAgree
-stamp-calls-agree l p t e buffer n h = stamp-printed l p e (length buffer) _ t (front (printStamp l p e (length buffer)) buffer n h)
+pub stamp-call-reads-back : StampCallReadsBack
+stamp-call-reads-back l p t e buffer n h = stamp-printed l p e (length buffer) _ t (front (printStamp l p e (length buffer)) buffer n h)

@@ -18,7 +18,7 @@ use Rattle.rules.specs.Facts.{LayoutFacts}
 use Rattle.rules.proofs.Accepted.{layout-facts}
 use Rattle.rules.specs.Text.{isDigit, isAllowed, isBlank, isMark, isPresent, firstPresent, eachField, sumOf, fieldsOf, fieldsCount, readText}
 use Rattle.rules.specs.Print.{delimiterByte, fieldPrint, fieldsPrint, countPrint, fitting, printCount, lengthPrinted, bufferAfter}
-use Rattle.roundtrip.specs.RoundTrip.{TenSlots, CountReadsBack, CountPrintsShort, CountCallsAgree, longestCountPrint}
+use Rattle.roundtrip.specs.RoundTrip.{TenSlots, CountReadsBack, CountPrintsShort, CountCallReadsBack, longestCountPrint}
 use Rattle.roundtrip.proofs.Lists.{all-append, all-cons, all-weaker}
 use Rattle.roundtrip.proofs.Digits.{Prints}
 use Rattle.roundtrip.proofs.Fields.{field-prints, print-last, print-more, printedFields, fields-printed}
@@ -76,15 +76,16 @@ readable-lists l (m ∷ ms) (o ∷ os) c em eo n a f h =
       short = rw (em, eo) (omega (arith, fields-length (delimiterByte (l .delimiter)) c m ms o os f h, a .few-fields));
       allowed = rw (em, eo) (fields-allowed _ (delimiter-allowed (l .delimiter) (a .delimiter-low) (a .delimiter-high)) c m ms o os same);
       counted =
-        rw
-        (em,
-        eo,
-        fields-printed (l .delimiter) (a .delimiter-low) (a .delimiter-high) c m ms o os same,
-        le-leb (length fs) (l .n) (omega (arith, length-printed c (m ∷ ms) (o ∷ os))),
-        first-printed c m ms o os,
-        each-printed c (m ∷ ms) (o ∷ os) _ f h,
-        sum-printed c (m ∷ ms) (o ∷ os) f h,
-        le-leb c largestCount (omega (arith, f .in-range)));
+          rw (
+            em,
+            eo,
+            fields-printed (l .delimiter) (a .delimiter-low) (a .delimiter-high) c m ms o os same,
+            le-leb (length fs) (l .n) (omega (arith, length-printed c (m ∷ ms) (o ∷ os))),
+            first-printed c m ms o os,
+            each-printed c (m ∷ ms) (o ∷ os) _ f h,
+            sum-printed c (m ∷ ms) (o ∷ os) f h,
+            le-leb c largestCount (omega (arith, f .in-range)),
+          );
     }
 
 pub readable : (l : Layout) (c : ℕ) → TenSlots l → layoutOk l ≡ true → c < productOf l → Readable l c

@@ -132,4 +132,3 @@ module _ (code : ℕ) (low : 1 ≤ code) (high : code ≤ lastDelimiter) where
       let rest = c % product (k ∷ ms) in
       rw
       (print-more (delimiterByte code) c m k ms o (q ∷ os), first-field _ _ _ (field-prints (c / product (k ∷ ms)) m o) (digit-begins (delimiterByte code) rest k ms q os), fields-printed rest k ms q os (omega arith))
- 

@@ -11,3 +11,4 @@ pub mod Stamps
 pub mod Unnamed
 pub mod Ends
 pub mod Buffers
+pub mod Longest

@@ -89,14 +89,15 @@ module _ (l : Layout) (p : Partitions) (t : TenSlots l) (ok : layoutOk l ≡ tru
   pub stamp-back : readStamp l p (stampPrint l p e) ≡ answer e
   unfolding readStamp stampPrint unless andThen
   stamp-back =
-      rw
-      (ok,
-      good,
-      le-leb (length (stampPrint l p e)) longestText (omega (arith, stamp-short)),
-      stamp-read l p (place + 1) (padded 1 (place + 1)) _ (padded-prints 1 (place + 1)) (text .allowed),
-      text .counted,
-      named p place _ (there .below) (count .held),
-      count .encoded)
+      rw (
+        ok,
+        good,
+        le-leb (length (stampPrint l p e)) longestText (omega (arith, stamp-short)),
+        stamp-read l p (place + 1) (padded 1 (place + 1)) _ (padded-prints 1 (place + 1)) (text .allowed),
+        text .counted,
+        named p place _ (there .below) (count .held),
+        count .encoded,
+      )
 
 pub stamp-prints-short : StampPrintsShort
 stamp-prints-short = stamp-short

@@ -28,13 +28,13 @@ StampReadsBack =
     (l : Layout) (p : Partitions) → TenSlots l → layoutOk l ≡ true → partitionsOk l p ≡ true → (e : ℕ) → e ≤ totalOf p → readStamp l p (stampPrint l p e) ≡ answer e
 
 -- The same of the calls: what a print leaves at the front of a lent buffer, as far as its answer says, is read as what was printed.
-abbrev pub CountCallsAgree : Type 0
-CountCallsAgree =
+abbrev pub CountCallReadsBack : Type 0
+CountCallReadsBack =
     (l : Layout) → TenSlots l → (c : ℕ) (buffer : List ℕ) (n : ℕ) → lengthPrinted (printCount l c (length buffer)) ≡ answer n
     → readText l (take n (bufferAfter (printCount l c (length buffer)) buffer)) ≡ answer c
 
-abbrev pub StampCallsAgree : Type 0
-StampCallsAgree =
+abbrev pub StampCallReadsBack : Type 0
+StampCallReadsBack =
     (l : Layout) (p : Partitions) → TenSlots l → (e : ℕ) (buffer : List ℕ) (n : ℕ) → lengthPrinted (printStamp l p e (length buffer)) ≡ answer n
     → readStamp l p (take n (bufferAfter (printStamp l p e (length buffer)) buffer)) ≡ answer e
 
@@ -51,3 +51,11 @@ CountPrintsShort = (l : Layout) → TenSlots l → layoutOk l ≡ true → (c : 
 abbrev pub StampPrintsShort : Type 0
 StampPrintsShort =
     (l : Layout) (p : Partitions) → TenSlots l → layoutOk l ≡ true → partitionsOk l p ≡ true → (e : ℕ) → e ≤ totalOf p → length (stampPrint l p e) ≤ longestStampPrint
+
+-- some prints are that long
+abbrev pub LongestCountPrinted : Type 0
+LongestCountPrinted = (l : Layout) × (c : ℕ) × TenSlots l × (layoutOk l ≡ true) × (c < productOf l) × (length (countPrint l c) ≡ longestCountPrint)
+
+abbrev pub LongestStampPrinted : Type 0
+LongestStampPrinted =
+    (l : Layout) × (p : Partitions) × TenSlots l × (layoutOk l ≡ true) × (partitionsOk l p ≡ true) × (length (stampPrint l p (totalOf p)) ≡ longestStampPrint)
