@@ -1,16 +1,14 @@
 -- What the printing calls leave at the front of a lent buffer is read as what was printed.
-use Prim.Native.Nat.{ℕ, _≤_, _<_}
-use mathlib.Core.Path.{_≡_, refl, sym, subst, ap, _∙_}
-use mathlib.Core.Bool.{true}
-use mathlib.Core.List.{List, _++_}
-use lib.Dec.{leb, ltb}
-use lib.ListN.{length, take, drop}
+use Prim.Native.Nat.{ℕ}
+use mathlib.Core.Path.{_≡_}
+use mathlib.Core.List.{List}
+use lib.ListN.{length, take}
 use lib.Seq.{take-append-seam}
 use borrow.Author.Tests.{ltb-true, leb-true}
-use Rattle.rules.specs.Answer.{Answer, answer, refused, unless}
+use Rattle.rules.specs.Answer.{Answer, answer, refused}
 use Rattle.rules.specs.declared.Layout.{Layout}
-use Rattle.rules.specs.Layout.{productOf, layoutOk}
-use Rattle.rules.specs.Partitions.{Partitions, totalOf, partitionsOk}
+use Rattle.rules.specs.Layout.{productOf}
+use Rattle.rules.specs.Partitions.{Partitions, totalOf}
 use Rattle.rules.specs.Text.{readText}
 use Rattle.rules.specs.Stamp.{readStamp}
 use Rattle.rules.specs.Print.{countPrint, stampPrint, fitting, printCount, printStamp, lengthPrinted, bufferAfter}

@@ -1,26 +1,22 @@
 -- A printed count is read as itself.
-use Prim.Native.Nat.{ℕ, zero, suc, _+_, _*_, _/_, _%_, min, _≤_, _<_}
-use mathlib.Core.Path.{_≡_, refl, sym, ap, _∙_}
-use mathlib.Core.Bool.{Bool, true, false, _&&_, _||_}
-use mathlib.Core.List.{List, [], _∷_, _++_}
-use lib.Dec.{leb, ltb, eqb}
-use lib.ListN.{length, take, length-take}
-use lib.Seq.{take-append-seam}
-use borrow.Author.Tests.{le-leb, ltb-true}
+use Prim.Native.Nat.{ℕ, zero, suc, _/_, _%_, _≤_, _<_}
+use mathlib.Core.Path.{_≡_, refl}
+use mathlib.Core.Bool.{true}
+use mathlib.Core.List.{List, [], _∷_}
+use lib.ListN.{length, length-take}
+use borrow.Author.Tests.{le-leb}
 use native.Mathlib.Omega.{arith}
 use Rattle.base.specs.Scans.{all, product}
-use Rattle.base.proofs.Tests.{or-first, or-second}
-use Rattle.rules.specs.Limits.{mostFields, lastDelimiter, longestText, largestCount}
-use Rattle.rules.specs.Answer.{Answer, answer, refused, unless}
+use Rattle.rules.specs.Limits.{lastDelimiter, longestText, largestCount}
+use Rattle.rules.specs.Answer.{answer, unless}
 use Rattle.rules.specs.declared.Layout.{Layout}
 use Rattle.rules.specs.Layout.{moduliOf, offsetsOf, productOf, layoutOk}
 use Rattle.rules.specs.Facts.{LayoutFacts}
 use Rattle.rules.proofs.Accepted.{layout-facts}
-use Rattle.rules.specs.Text.{isDigit, isAllowed, isBlank, isMark, isPresent, firstPresent, eachField, sumOf, fieldsOf, fieldsCount, readText}
-use Rattle.rules.specs.Print.{delimiterByte, fieldPrint, fieldsPrint, countPrint, fitting, printCount, lengthPrinted, bufferAfter}
-use Rattle.roundtrip.specs.RoundTrip.{TenSlots, CountReadsBack, CountPrintsShort, CountCallReadsBack, longestCountPrint}
+use Rattle.rules.specs.Text.{isDigit, isAllowed, fieldsOf, fieldsCount, readText}
+use Rattle.rules.specs.Print.{delimiterByte, fieldsPrint, countPrint}
+use Rattle.roundtrip.specs.RoundTrip.{TenSlots, CountReadsBack, CountPrintsShort, longestCountPrint}
 use Rattle.roundtrip.proofs.Lists.{all-append, all-cons, all-weaker}
-use Rattle.roundtrip.proofs.Digits.{Prints}
 use Rattle.roundtrip.proofs.Fields.{field-prints, print-last, print-more, printedFields, fields-printed}
 use Rattle.roundtrip.proofs.Split.{Fields, each-printed, sum-printed, length-printed, first-printed}
 use Rattle.roundtrip.proofs.Length.{fields-length}

@@ -1,20 +1,20 @@
 -- Decimal digits: how many a number has, and the number that printed digits make when they are read.
 use Prim.Native.Nat.{ℕ, zero, suc, _+_, _-_, _*_, _/_, _%_, _^_, max, _≤_, _<_}
-use mathlib.Core.Path.{_≡_, refl, sym, _∙_, ap}
-use mathlib.Core.Bool.{Bool, true, false, _&&_}
+use mathlib.Core.Path.{_≡_, refl}
+use mathlib.Core.Bool.{true}
 use mathlib.Core.List.{List, [], _∷_, _++_}
-use lib.Dec.{leb, ltb}
+use lib.Dec.{ltb}
 use lib.ListN.{length, length-append}
 use lib.Arith.{mod-mul}
 use borrow.Author.Tests.{lt-ltb, le-ltb, le-leb, ltb-true, ltb-false}
-use native.Mathlib.Nat.{pow-suc, pow-le-pow-right, mod-lt, mod-eq-of-lt, mod-one, one-le-pow, add-mul, mul-assoc, le-max-right, lt-of-lt-of-le}
+use native.Mathlib.Nat.{pow-suc, pow-le-pow-right, mod-eq-of-lt, one-le-pow, le-max-right, lt-of-lt-of-le}
 use native.Mathlib.Numerals.{add-one}
 use native.Mathlib.Omega.{arith}
 use Rattle.base.specs.Scans.{all}
 use Rattle.base.proofs.Tests.{by-test, and-both}
 use Rattle.rules.specs.Text.{isDigit, valueFrom, valueOf}
 use Rattle.rules.specs.Print.{digitsUpTo, digitCount, lastDigits, padded}
-use Rattle.roundtrip.proofs.Lists.{all-append, all-cons}
+use Rattle.roundtrip.proofs.Lists.{all-append}
 
 digits-one : (most x : ℕ) → x < 10 → digitsUpTo most x ≡ 1
 unfolding digitsUpTo

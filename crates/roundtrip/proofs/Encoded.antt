@@ -1,9 +1,9 @@
 -- The partition of an encoded count, and the clock's count there.
 use Prim.Native.Nat.{ℕ, zero, suc, _+_, _-_, _≤_, _<_}
-use mathlib.Core.Path.{_≡_, refl, sym, ap, _∙_}
-use mathlib.Core.Bool.{Bool, true, false, _&&_}
+use mathlib.Core.Path.{_≡_, refl, ap}
+use mathlib.Core.Bool.{Bool, true, false}
 use mathlib.Core.Option.{Option, none, some}
-use lib.Dec.{leb, ltb}
+use lib.Dec.{ltb}
 use borrow.Author.Tests.{lt-ltb, le-ltb, le-leb, ltb-true, ltb-false}
 use native.Mathlib.Numerals.{add-one}
 use native.Mathlib.Omega.{arith}
@@ -13,7 +13,7 @@ use Rattle.base.proofs.Scans.{First, first-is, first-none, first-found, first-m
 use Rattle.rules.specs.declared.Layout.{Layout}
 use Rattle.rules.specs.Layout.{productOf}
 use Rattle.rules.specs.Partitions.{Partitions, partitionsIn, startOf, endOf, lengthOf, lengthsBefore, totalOf}
-use Rattle.rules.specs.Facts.{PartitionFacts, PartitionsFacts}
+use Rattle.rules.specs.Facts.{PartitionFacts}
 use Rattle.rules.specs.Stamp.{holds, encodedIn}
 use Rattle.rules.specs.Print.{foundOrLast, partitionOf, decodedIn}
 

@@ -1,15 +1,14 @@
 -- An inner end is printed as the next start, the total as the last end.
-use Prim.Native.Nat.{ℕ, suc, _+_, _-_, _≤_, _<_}
-use mathlib.Core.Path.{_≡_, refl, ap}
-use mathlib.Core.Bool.{true}
+use Prim.Native.Nat.{ℕ, _+_, _-_}
+use mathlib.Core.Path.{_≡_, ap}
 use native.Mathlib.Omega.{arith}
 use Rattle.rules.specs.declared.Layout.{Layout}
-use Rattle.rules.specs.Partitions.{Partitions, partitionsIn, startOf, endOf, lengthsBefore, totalOf, partitionsOk}
+use Rattle.rules.specs.Partitions.{Partitions, partitionsIn, startOf, endOf, lengthsBefore}
 use Rattle.rules.proofs.Accepted.{partitions-facts}
 use Rattle.rules.specs.Stamp.{encodedIn}
 use Rattle.rules.specs.Print.{partitionOf, decodedIn, stampPrint}
 use Rattle.roundtrip.specs.Ends.{PrintedAs, InnerEndShared, InnerEndPrinted, TotalPrinted}
-use Rattle.roundtrip.proofs.Encoded.{before-next, before-up, before-total, partition-is, partition-total}
+use Rattle.roundtrip.proofs.Encoded.{before-next, before-total, partition-is, partition-total}
 
 printed-as : (l : Layout) (p : Partitions) (e i c : ℕ) → partitionOf p e ≡ i → decodedIn p e i ≡ c → PrintedAs l p e i c
 unfolding stampPrint

@@ -1,29 +1,14 @@
 -- The fields of a print: reading finds the digits of each, whatever the delimiter.
-use Prim.Native.Nat.{ℕ, zero, suc, _+_, _-_, _/_, _%_, _≤_, _<_}
+use Prim.Native.Nat.{ℕ, zero, suc, _+_, _-_, _/_, _%_, _≤_}
 use mathlib.Core.Path.{_≡_, refl, sym, _∙_, ap}
-use mathlib.Core.Bool.{Bool, true, false, _&&_, _||_, cond, true≢false}
+use mathlib.Core.Bool.{Bool, true, false, true≢false}
 use mathlib.Core.List.{List, [], _∷_, _++_, append-nil}
 use lib.ListN.{length}
 use native.Mathlib.Nat.{div-one}
 use native.Mathlib.Omega.{arith}
 use Rattle.base.specs.Scans.{all, product}
 use Rattle.rules.specs.Limits.{lastDelimiter}
-use Rattle.rules.specs.Text.{
-  Before,
-  edge,
-  number,
-  gap,
-  Field,
-  isDigit,
-  symbolsFrom,
-  symbolsAt,
-  digitAfter,
-  after,
-  afterBlank,
-  between,
-  withDigit,
-  fieldsOf,
-}
+use Rattle.rules.specs.Text.{Before, edge, number, gap, Field, isDigit, symbolsFrom, symbolsAt, digitAfter, after, afterBlank, between, withDigit, fieldsOf}
 use Rattle.rules.specs.Print.{fieldWidth, fieldPrint, fieldsPrint, delimiterByte}
 use Rattle.roundtrip.proofs.Lists.{all-head, all-tail}
 use Rattle.roundtrip.proofs.Digits.{digitsOf, Prints, padded-prints}

@@ -1,9 +1,8 @@
 -- How long a print can be. A field has four digits, or more by e where its modulus is at least 1,000 × 10^e less 999;
 -- the moduli's product is then as large, so all fields together have at most twelve digits above four each.
 use Prim.Native.Nat.{ℕ, zero, suc, _+_, _-_, _*_, _/_, _%_, _^_, max, _≤_, _<_}
-use mathlib.Core.Path.{_≡_, refl, sym, _∙_}
-use mathlib.Core.Bool.{Bool, true, false}
-use mathlib.Core.List.{List, [], _∷_, _++_}
+use mathlib.Core.Path.{_≡_}
+use mathlib.Core.List.{List, [], _∷_}
 use lib.Dec.{leb}
 use lib.ListN.{length, length-append}
 use lib.Pow.{pow-add}
@@ -16,7 +15,7 @@ use Rattle.rules.specs.Limits.{largestOffset, largestP}
 use Rattle.rules.specs.Print.{digitsUpTo, digitCount, fieldWidth, fieldPrint, fieldsPrint}
 use Rattle.roundtrip.proofs.Digits.{count-needed, padded-length}
 use Rattle.roundtrip.proofs.Fields.{print-last, print-more}
-use Rattle.roundtrip.proofs.Split.{Fields, FirstField, first-field-facts, quotient-below}
+use Rattle.roundtrip.proofs.Split.{Fields, first-field-facts, quotient-below}
 
 -- w digits, and the modulus that they ask for
 abbrev Fits : ℕ → ℕ → Type 0

@@ -1,18 +1,17 @@
 -- Prints of the greatest length: moduli 10^15 and nine times 1, offsets of 1,000, and 1,000 partitions that end at P - 1.
-use Prim.Native.Nat.{ℕ, zero, suc, _+_, _-_, _/_, _%_, max, _≤_, _<_}
-use mathlib.Core.Path.{_≡_, refl, ap, _∙_}
+use Prim.Native.Nat.{_-_}
+use mathlib.Core.Path.{_≡_, refl, ap}
 use mathlib.Core.Bool.{true}
-use mathlib.Core.List.{List, [], _∷_, _++_}
+use mathlib.Core.List.{_∷_}
 use lib.ListN.{length, replicate}
 use native.Mathlib.Omega.{arith}
 use Rattle.base.specs.Scans.{allOf, all, allBelow, sumBelow, product}
 use Rattle.rules.specs.Limits.{largestP, largestOffset}
 use Rattle.rules.specs.declared.Layout.{Layout}
 use Rattle.rules.specs.Layout.{productOf, msfOf, layoutOk}
-use Rattle.rules.specs.Partitions.{Partitions, partitions, partitionsIn, endOf, lengthsBefore, totalOf, partitionOk, partitionsOk}
-use Rattle.rules.specs.Print.{digitsUpTo, digitCount, lastDigits, padded, fieldWidth, fieldPrint, delimiterByte, fieldsPrint, countPrint, stampPrint}
+use Rattle.rules.specs.Partitions.{Partitions, partitions, lengthsBefore, totalOf, partitionOk, partitionsOk}
+use Rattle.rules.specs.Print.{digitsUpTo, digitCount, lastDigits, padded, fieldWidth, fieldPrint, delimiterByte, fieldsPrint, countPrint}
 use Rattle.roundtrip.specs.RoundTrip.{TenSlots, LongestCountPrinted, LongestStampPrinted}
-use Rattle.roundtrip.specs.Ends.{PrintedAs}
 use Rattle.roundtrip.proofs.Ends.{total-printed}
 
 widest : Layout

@@ -1,7 +1,7 @@
 -- A count split into fields by the moduli: the fields are in their limits and add up to the count again.
-use Prim.Native.Nat.{ℕ, zero, suc, _+_, _-_, _*_, _/_, _%_, _≤_, _<_}
-use mathlib.Core.Path.{_≡_, refl, sym, _∙_}
-use mathlib.Core.Bool.{Bool, true, false, cond}
+use Prim.Native.Nat.{ℕ, _+_, _*_, _/_, _%_, _≤_, _<_}
+use mathlib.Core.Path.{_≡_, refl}
+use mathlib.Core.Bool.{true}
 use mathlib.Core.List.{List, [], _∷_}
 use lib.Dec.{leb}
 use lib.ListN.{length}
@@ -11,7 +11,7 @@ use native.Mathlib.Omega.{arith}
 use Rattle.base.specs.Scans.{all, product}
 use Rattle.rules.specs.Limits.{largestOffset, largestP, largestField}
 use Rattle.rules.specs.Answer.{Answer, unless}
-use Rattle.rules.specs.Text.{Field, isPresent, firstPresent, valueOf, ticksOf, sumOf, notAbove, notBelow, eachField}
+use Rattle.rules.specs.Text.{isPresent, firstPresent, ticksOf, sumOf, notAbove, notBelow, eachField}
 use Rattle.rules.specs.Print.{fieldPrint}
 use Rattle.roundtrip.proofs.Lists.{all-head, all-tail}
 use Rattle.roundtrip.proofs.Digits.{digitsOf, Prints}

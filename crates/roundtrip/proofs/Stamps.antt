@@ -1,30 +1,30 @@
 -- A printed stamp is read as its encoded count.
-use Prim.Native.Nat.{ℕ, zero, suc, _+_, _-_, _*_, _^_, max, _≤_, _<_}
-use mathlib.Core.Path.{_≡_, refl, sym, ap, _∙_}
-use mathlib.Core.Bool.{Bool, true, false, _&&_}
-use mathlib.Core.List.{List, [], _∷_, _++_}
-use mathlib.Core.Option.{Option, none, some}
-use lib.Dec.{leb, ltb, eqb}
-use lib.ListN.{length, getD, take, drop, length-append, List·getD-append}
+use Prim.Native.Nat.{ℕ, _+_, _-_, _≤_, _<_}
+use mathlib.Core.Path.{_≡_}
+use mathlib.Core.Bool.{true, false}
+use mathlib.Core.List.{List, _∷_, _++_}
+use mathlib.Core.Option.{some}
+use lib.Dec.{leb, eqb}
+use lib.ListN.{length, getD, length-append, List·getD-append}
 use lib.Seq.{take-append-seam, drop-append-add, getD-append-seam}
-use borrow.Author.Tests.{le-leb, leb-true, leb-false, eq-eqb, ne-eqb}
+use borrow.Author.Tests.{le-leb, leb-true, leb-false, ne-eqb}
 use native.Mathlib.Nat.{pow-le-pow-right}
 use native.Mathlib.Omega.{arith}
-use Rattle.base.specs.Scans.{all, firstBelow}
+use Rattle.base.specs.Scans.{all}
 use Rattle.base.proofs.Tests.{by-test, and-both, and-first}
-use Rattle.base.proofs.Scans.{First, first-is}
+use Rattle.base.proofs.Scans.{first-is}
 use Rattle.rules.specs.Limits.{mostPartitions, longestText}
-use Rattle.rules.specs.Answer.{Answer, answer, refused, unless, andThen}
+use Rattle.rules.specs.Answer.{answer, unless, andThen}
 use Rattle.rules.specs.declared.Layout.{Layout}
 use Rattle.rules.specs.Layout.{layoutOk}
 use Rattle.rules.specs.Partitions.{Partitions, partitionsIn, partitionsOk, totalOf}
 use Rattle.rules.proofs.Accepted.{partitions-facts}
-use Rattle.rules.specs.Text.{isDigit, isAllowed, isPresent, valueOf, fieldsOf, fieldsCount}
-use Rattle.rules.specs.Stamp.{slashIn, onePresent, frontOk, firstValue, frontNumber, holds, encodedIn, encodeNamed, stampAt, readStamp}
-use Rattle.rules.specs.Print.{digitCount, padded, countPrint, partitionOf, decodedIn, stampPrint}
+use Rattle.rules.specs.Text.{isDigit, isAllowed, fieldsOf, fieldsCount}
+use Rattle.rules.specs.Stamp.{slashIn, frontOk, frontNumber, holds, encodedIn, encodeNamed, stampAt, readStamp}
+use Rattle.rules.specs.Print.{digitCount, padded, partitionOf, decodedIn, stampPrint}
 use Rattle.roundtrip.specs.RoundTrip.{TenSlots, StampReadsBack, StampPrintsShort, longestStampPrint}
 use Rattle.roundtrip.proofs.Lists.{all-getD}
-use Rattle.roundtrip.proofs.Digits.{digitsOf, Prints, padded-prints, padded-length, count-needed}
+use Rattle.roundtrip.proofs.Digits.{Prints, padded-prints, padded-length, count-needed}
 use Rattle.roundtrip.proofs.Fields.{one-field}
 use Rattle.roundtrip.proofs.Split.{present}
 use Rattle.roundtrip.proofs.Counts.{Readable, readable, digits-allowed}

@@ -1,22 +1,21 @@
 -- A stamp without a partition: the first partition that holds the count, or none.
-use Prim.Native.Nat.{ℕ, _+_, _-_, _≤_, _<_}
+use Prim.Native.Nat.{ℕ, _<_}
 use mathlib.Core.Path.{_≡_, refl, sym, subst, _∙_}
-use mathlib.Core.Bool.{Bool, true, false, _&&_}
-use mathlib.Core.List.{List, [], _∷_}
-use mathlib.Core.Option.{Option, none, some}
+use mathlib.Core.Bool.{true, false}
+use mathlib.Core.List.{List}
+use mathlib.Core.Option.{none}
 use mathlib.Core.Logic.{_⊎_, inl, inr, ⊎-elim}
-use lib.Dec.{leb, eqb}
+use lib.Dec.{leb}
 use lib.ListN.{length, getD}
 use borrow.Author.Tests.{le-leb, leb-true, ne-eqb}
-use native.Mathlib.Omega.{arith}
-use Rattle.base.specs.Scans.{all, firstBelow}
-use Rattle.base.proofs.Tests.{by-test, not-both, and-both, and-first, and-second}
+use Rattle.base.specs.Scans.{all}
+use Rattle.base.proofs.Tests.{not-both, and-both, and-first, and-second}
 use Rattle.base.proofs.Scans.{First, first-is, first-none, first-or}
 use Rattle.rules.specs.Limits.{longestText}
-use Rattle.rules.specs.Answer.{Answer, answer, refused, unless, andThen}
+use Rattle.rules.specs.Answer.{answer, refused, unless, andThen}
 use Rattle.rules.specs.declared.Layout.{Layout}
 use Rattle.rules.specs.Layout.{layoutOk}
-use Rattle.rules.specs.Partitions.{Partitions, partitionsIn, startOf, endOf, lengthsBefore, partitionsOk}
+use Rattle.rules.specs.Partitions.{Partitions, partitionsIn, startOf, endOf, partitionsOk}
 use Rattle.rules.specs.Text.{isAllowed, fieldsOf, fieldsCount, readText}
 use Rattle.rules.specs.Stamp.{slashIn, holds, encodedIn, encodeFound, encodeFirst, stampAt, readStamp}
 use Rattle.roundtrip.specs.Unnamed.{Holds, FirstToHold, NoneHolds, UnnamedStamp, UnnamedRefused}
