@@ -16,51 +16,51 @@ use Rattle.rules.specs.Text.{isDigit, valueFrom, valueOf}
 use Rattle.rules.specs.Print.{digitsUpTo, digitCount, lastDigits, padded}
 use Rattle.roundtrip.proofs.Lists.{all-append}
 
-digits-one : (most x : ℕ) → x < 10 → digitsUpTo most x ≡ 1
+up-to-one : (most x : ℕ) → x < 10 → digitsUpTo most x ≡ 1
 unfolding digitsUpTo
-digits-one zero x h = refl
-digits-one (suc most) x h = rw (lt-ltb x 10 h, digitsUpTo)
+up-to-one zero x h = refl
+up-to-one (suc most) x h = rw (lt-ltb x 10 h, digitsUpTo)
 
-digits-more : (most x : ℕ) → 10 ≤ x → digitsUpTo (suc most) x ≡ suc (digitsUpTo most (x / 10))
+up-to-more : (most x : ℕ) → 10 ≤ x → digitsUpTo (suc most) x ≡ suc (digitsUpTo most (x / 10))
 unfolding digitsUpTo
-digits-more most x h = rw (le-ltb x 10 h, digitsUpTo) (add-one _)
+up-to-more most x h = rw (le-ltb x 10 h, digitsUpTo) (add-one _)
 
--- a number has enough digits
-digits-enough : (most x : ℕ) → x ≤ most → x < 10 ^ digitsUpTo most x
-digits-enough zero x h = rw (digits-one zero x (omega arith)) (omega arith)
-digits-enough (suc most) x h =
+-- enough digits for the number
+up-to-enough : (most x : ℕ) → x ≤ most → x < 10 ^ digitsUpTo most x
+up-to-enough zero x h = rw (up-to-one zero x (omega arith)) (omega arith)
+up-to-enough (suc most) x h =
     by-test (ltb x 10)
-    (λ t. rw (digits-one (suc most) x (ltb-true x 10 t)) (ltb-true x 10 t))
-    (λ f. more (ltb-false x 10 f) (digits-enough most (x / 10) (omega (arith, ltb-false x 10 f))))
+    (λ t. rw (up-to-one (suc most) x (ltb-true x 10 t)) (ltb-true x 10 t))
+    (λ f. more (ltb-false x 10 f) (up-to-enough most (x / 10) (omega (arith, ltb-false x 10 f))))
   where
     more : 10 ≤ x → x / 10 < 10 ^ digitsUpTo most (x / 10) → x < 10 ^ digitsUpTo (suc most) x
-    more l d = rw (digits-more most x l, pow-suc) (omega arith)
+    more l d = rw (up-to-more most x l, pow-suc) (omega arith)
 
 -- and no more than it needs
-digits-needed : (most x : ℕ) → 1 ≤ x → 10 ^ digitsUpTo most x ≤ x * 10
+up-to-needed : (most x : ℕ) → 1 ≤ x → 10 ^ digitsUpTo most x ≤ x * 10
 unfolding digitsUpTo
-digits-needed zero x h = omega arith
-digits-needed (suc most) x h =
+up-to-needed zero x h = omega arith
+up-to-needed (suc most) x h =
     by-test (ltb x 10)
-    (λ t. rw (digits-one (suc most) x (ltb-true x 10 t)) (omega arith))
-    (λ f. more (ltb-false x 10 f) (digits-needed most (x / 10) (omega (arith, ltb-false x 10 f))))
+    (λ t. rw (up-to-one (suc most) x (ltb-true x 10 t)) (omega arith))
+    (λ f. more (ltb-false x 10 f) (up-to-needed most (x / 10) (omega (arith, ltb-false x 10 f))))
   where
     more : 10 ≤ x → 10 ^ digitsUpTo most (x / 10) ≤ x / 10 * 10 → 10 ^ digitsUpTo (suc most) x ≤ x * 10
-    more l d = rw (digits-more most x l, pow-suc) (omega arith)
+    more l d = rw (up-to-more most x l, pow-suc) (omega arith)
 
-pub count-enough : (x : ℕ) → x < 10 ^ digitCount x
+pub digits-enough : (x : ℕ) → x < 10 ^ digitCount x
 unfolding digitCount
-count-enough x = digits-enough x x (omega arith)
+digits-enough x = up-to-enough x x (omega arith)
 
-pub count-needed : (x : ℕ) → 1 ≤ x → 10 ^ digitCount x ≤ x * 10
+pub digits-needed : (x : ℕ) → 1 ≤ x → 10 ^ digitCount x ≤ x * 10
 unfolding digitCount
-count-needed x h = digits-needed x x h
+digits-needed x h = up-to-needed x x h
 
 -- a number has a digit
-pub count-some : (x : ℕ) → 1 ≤ digitCount x
+pub digits-some : (x : ℕ) → 1 ≤ digitCount x
 unfolding digitCount digitsUpTo
-count-some zero = omega arith
-count-some (suc x) = by-test (ltb (suc x) 10) (λ t. rw (t, digitsUpTo) (omega arith)) (λ f. rw (f, digitsUpTo) (omega arith))
+digits-some zero = omega arith
+digits-some (suc x) = by-test (ltb (suc x) 10) (λ t. rw (t, digitsUpTo) (omega arith)) (λ f. rw (f, digitsUpTo) (omega arith))
 
 -- the digits that bytes stand for
 unfoldable pub digitsOf : List ℕ → List ℕ
@@ -81,7 +81,8 @@ last-value : (v w x : ℕ) → valueFrom v (digitsOf (lastDigits w x)) ≡ v * 1
 unfolding lastDigits digitsOf valueFrom
 last-value v zero x = omega arith
 last-value v (suc w) x =
-    rw (digits-append, value-append, last-value v w (x / 10), pow-suc, mod-mul x {m = 10 ^ w} {c = 10} (one-le-pow w 10 (omega arith)) (omega arith)) (omega arith)
+    let split = mod-mul x {m = 10 ^ w} {c = 10} (one-le-pow w 10 (omega arith)) (omega arith) in
+    rw (digits-append, value-append, last-value v w (x / 10), pow-suc, split) (omega arith)
 
 last-whole : (w x : ℕ) → x < 10 ^ w → valueOf (digitsOf (lastDigits w x)) ≡ x
 unfolding valueOf
@@ -101,7 +102,7 @@ last-digits (suc w) x =
     digit : isDigit (48 + x % 10) ≡ true
     digit = and-both (le-leb 48 (48 + x % 10) (omega arith)) (le-leb (48 + x % 10) 57 (omega arith))
 
--- bytes that read as the number x
+-- the bytes s are digits that read as the number x
 pub record Prints (x : ℕ) (s : List ℕ) : Type 0 where
   pub some : 1 ≤ length s
   pub digits : all isDigit s ≡ true
@@ -114,8 +115,9 @@ padded-length w x = last-length (max w (digitCount x)) x
 pub padded-prints : (w x : ℕ) → Prints x (padded w x)
 unfolding padded
 padded-prints w x =
+    let most = max w (digitCount x) in
     record {
-      some = rw last-length (omega (arith, count-some x));
-      digits = last-digits (max w (digitCount x)) x;
-      value = last-whole (max w (digitCount x)) x (lt-of-lt-of-le (count-enough x) (pow-le-pow-right (omega arith) (le-max-right w (digitCount x))));
+      some = rw last-length (omega (arith, digits-some x));
+      digits = last-digits most x;
+      value = last-whole most x (lt-of-lt-of-le (digits-enough x) (pow-le-pow-right (omega arith) (le-max-right w (digitCount x))));
     }

@@ -78,13 +78,18 @@ module _ (p : Partitions) where
   pub partition-is : (e i : ℕ) → i < partitionsIn p → lengthsBefore p i ≤ e → e < lengthsBefore p (i + 1) → partitionOf p e ≡ i
   unfolding partitionOf foundOrLast
   partition-is e i b l h =
-      rw (first-is (above e) (partitionsIn p) i (record { below = b; holds = lt-ltb e _ h; before = λ j k. le-ltb e (lengthsBefore p (j + 1)) (omega (arith, before-up (j + 1) i (omega arith))) }))
+      rw (first-is (above e) (partitionsIn p) i (record { below = b; holds = lt-ltb e _ h; before = none-before }))
+    where
+      none-before : (j : ℕ) → j < i → above e j ≡ false
+      none-before j k = le-ltb e (lengthsBefore p (j + 1)) (omega (arith, before-up (j + 1) i (omega arith)))
 
   -- "the total itself belongs to the last"
   pub partition-total : partitionOf p (totalOf p) ≡ partitionsIn p - 1
   unfolding partitionOf foundOrLast
-  partition-total =
-      rw (first-none (above (totalOf p)) (partitionsIn p) (λ i b. le-ltb (totalOf p) (lengthsBefore p (i + 1)) (omega (arith, before-total, before-up (i + 1) (partitionsIn p) (omega arith)))))
+  partition-total = rw (first-none (above (totalOf p)) (partitionsIn p) none-above)
+    where
+      none-above : (i : ℕ) → i < partitionsIn p → above (totalOf p) i ≡ false
+      none-above i b = le-ltb (totalOf p) (lengthsBefore p (i + 1)) (omega (arith, before-total, before-up (i + 1) (partitionsIn p) (omega arith)))
 
 -- what encoding asks of the clock's count for e
 pub record Decoded (l : Layout) (p : Partitions) (e i : ℕ) : Type 0 where
@@ -96,8 +101,9 @@ pub decoded : (l : Layout) (p : Partitions) (e i : ℕ) → PartitionFacts l p i
 unfolding holds decodedIn encodedIn
 decoded l p e i f w =
     let next = before-next p i in
+    let c = startOf p i + (e - lengthsBefore p i) in
     record {
-      held = and-both (le-leb (startOf p i) (startOf p i + (e - lengthsBefore p i)) (omega arith)) (le-leb (startOf p i + (e - lengthsBefore p i)) (endOf p i) (omega (arith, next)));
+      held = and-both (le-leb (startOf p i) c (omega arith)) (le-leb c (endOf p i) (omega (arith, next)));
       in-range = omega (arith, next);
       encoded = omega (arith, next);
     }

@@ -18,7 +18,7 @@ use Rattle.roundtrip.proofs.Digits.{digitsOf, Prints}
 use Rattle.roundtrip.proofs.Fields.{printedFields, field-prints}
 
 -- the moduli and offsets of an accepted layout, or of its later fields
-pub record Fields (ms os : List ℕ) : Type 0 where
+pub record FieldsFacts (ms os : List ℕ) : Type 0 where
   pub one-length : length ms ≡ length os
   pub moduli : all (λ m. leb 1 m) ms ≡ true
   pub offsets : all (λ o. leb o largestOffset) os ≡ true
@@ -30,16 +30,16 @@ product-pos [] h = omega arith
 product-pos (m ∷ ms) h = mul-pos (leb-true 1 m (all-head _ m ms h)) (product-pos ms (all-tail _ m ms h))
 
 -- what holds of the first field
-pub record FirstField (m : ℕ) (ms : List ℕ) (o : ℕ) (os : List ℕ) : Type 0 where
+pub record FirstFacts (m : ℕ) (ms : List ℕ) (o : ℕ) (os : List ℕ) : Type 0 where
   pub modulus : 1 ≤ m
   pub modulus-fits : m ≤ largestP
   pub offset : o ≤ largestOffset
   pub unit : 1 ≤ product ms
-  pub later : Fields ms os
+  pub later : FieldsFacts ms os
 
-pub first-field-facts : (m : ℕ) (ms : List ℕ) (o : ℕ) (os : List ℕ) → Fields (m ∷ ms) (o ∷ os) → FirstField m ms o os
+pub first-facts : (m : ℕ) (ms : List ℕ) (o : ℕ) (os : List ℕ) → FieldsFacts (m ∷ ms) (o ∷ os) → FirstFacts m ms o os
 unfolding product
-first-field-facts m ms o os f =
+first-facts m ms o os f =
     let some = leb-true 1 m (all-head _ m ms (f .moduli)) in
     let unit = product-pos ms (all-tail _ m ms (f .moduli)) in
     record {
@@ -77,27 +77,26 @@ ticks-printed : (v o : ℕ) (s : List ℕ) (unit : ℕ) → Prints (v + o) s →
 unfolding ticksOf
 ticks-printed v o s unit p = rw (present (v + o) s p, p .value, add-sub-cancel)
 
-pub each-printed : (c : ℕ) (ms os : List ℕ) (a : Answer ℕ) → Fields ms os → c < product ms → eachField (printedFields c ms os) os a ≡ a
+pub each-printed : (c : ℕ) (ms os : List ℕ) (a : Answer ℕ) → FieldsFacts ms os → c < product ms → eachField (printedFields c ms os) os a ≡ a
 unfolding printedFields eachField unless
 each-printed c [] os a f h = refl
 each-printed c (m ∷ ms) [] a f h = refl
 each-printed c (m ∷ ms) (o ∷ os) a f h =
-    let g = first-field-facts m ms o os f in
+    let g = first-facts m ms o os f in
     let v = c / product ms in
     let p = field-prints v m o in
-    rw
-    (not-above (v + o) _ p (omega (arith, quotient-below c m ms (g .unit) h)), not-below (v + o) _ o p (omega arith), each-printed (c % product ms) ms os a (g .later) (mod-lt c (g .unit)))
+    let low = not-above (v + o) _ p (omega (arith, quotient-below c m ms (g .unit) h)) in
+    rw (low, not-below (v + o) _ o p (omega arith), each-printed (c % product ms) ms os a (g .later) (mod-lt c (g .unit)))
 
-pub sum-printed : (c : ℕ) (ms os : List ℕ) → Fields ms os → c < product ms → sumOf (printedFields c ms os) ms os ≡ c
+pub sum-printed : (c : ℕ) (ms os : List ℕ) → FieldsFacts ms os → c < product ms → sumOf (printedFields c ms os) ms os ≡ c
 unfolding printedFields sumOf product
 sum-printed c [] os f h = omega arith
 sum-printed c (m ∷ ms) [] f h = absurd (omega (arith, f .one-length))
 sum-printed c (m ∷ ms) (o ∷ os) f h =
-    let g = first-field-facts m ms o os f in
+    let g = first-facts m ms o os f in
     let v = c / product ms in
-    rw
-    (ticks-printed v o (fieldPrint v m o) (product ms) (field-prints v m o), sum-printed (c % product ms) ms os (g .later) (mod-lt c (g .unit)))
-    (div-add-mod' c (product ms))
+    let first = ticks-printed v o (fieldPrint v m o) (product ms) (field-prints v m o) in
+    rw (first, sum-printed (c % product ms) ms os (g .later) (mod-lt c (g .unit))) (div-add-mod' c (product ms))
 
 pub first-printed : (c m : ℕ) (ms : List ℕ) (o : ℕ) (os : List ℕ) → firstPresent (printedFields c (m ∷ ms) (o ∷ os)) ≡ true
 unfolding printedFields
