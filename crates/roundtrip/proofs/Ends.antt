@@ -30,7 +30,7 @@ pub inner-end-printed : InnerEndPrinted
 unfolding decodedIn
 inner-end-printed l p ok i h =
     let f = partitions-facts l p ok .each (i + 1) h in
-    printed-as l p _ (i + 1) _
+    printed-as l p _ _ _
     (rw end-encoded (partition-is p (lengthsBefore p (i + 1)) (i + 1) h (omega arith) (omega (arith, before-next p (i + 1)))))
     (rw end-encoded (omega arith))
 
@@ -41,4 +41,4 @@ total-printed l p ok =
     let i = partitionsIn p - 1 in
     let f = a .each i (omega (arith, a .some)) in
     let last : i + 1 ≡ partitionsIn p = omega (arith, a .some) in
-    printed-as l p _ i _ (partition-total p) (omega (arith, before-next p i, before-total p, ap (lengthsBefore p) last))
+    printed-as l p _ _ _ (partition-total p) (omega (arith, before-next p i, before-total p, ap (lengthsBefore p) last))

@@ -112,4 +112,4 @@ pub stamp-prints-short : StampPrintsShort
 stamp-prints-short = stamp-short
 
 pub stamp-reads-back : StampReadsBack
-stamp-reads-back = stamp-back
+stamp-reads-back l p t ok good e h = stamp-back l p t ok good e (omega arith)
