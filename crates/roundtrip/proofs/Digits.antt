@@ -14,7 +14,7 @@ use Rattle.base.specs.Scans.{all}
 use Rattle.base.proofs.Tests.{by-test, and-both}
 use Rattle.rules.specs.Text.{isDigit, valueFrom, valueOf}
 use Rattle.rules.specs.Print.{digitsUpTo, digitCount, lastDigits, padded}
-use Rattle.roundtrip.proofs.Lists.{all-append}
+use Rattle.base.proofs.Lists.{all-append}
 
 up-to-one : (most x : ℕ) → x < 10 → digitsUpTo most x ≡ 1
 unfolding digitsUpTo

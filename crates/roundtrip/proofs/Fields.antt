@@ -10,7 +10,7 @@ use Rattle.base.specs.Scans.{all, product}
 use Rattle.rules.specs.Limits.{lastDelimiter}
 use Rattle.rules.specs.Text.{Before, edge, number, gap, Field, isDigit, isAllowed, symbolsFrom, symbolsAt, digitAfter, after, afterBlank, between, withDigit, fieldsOf}
 use Rattle.rules.specs.Print.{fieldWidth, fieldPrint, fieldsPrint, delimiterByte}
-use Rattle.roundtrip.proofs.Lists.{all-append, all-cons, all-head, all-tail, all-weaker}
+use Rattle.base.proofs.Lists.{all-append, all-cons, all-head, all-tail, all-weaker}
 use Rattle.roundtrip.proofs.Digits.{digitsOf, Prints, padded-prints}
 
 -- the fields of what follows a digit

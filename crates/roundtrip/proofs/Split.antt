@@ -13,7 +13,7 @@ use Rattle.rules.specs.Limits.{largestOffset, largestP, largestField}
 use Rattle.rules.specs.Answer.{Answer, unless}
 use Rattle.rules.specs.Text.{isPresent, firstPresent, ticksOf, sumOf, notAbove, notBelow, eachField}
 use Rattle.rules.specs.Print.{fieldPrint}
-use Rattle.roundtrip.proofs.Lists.{all-head, all-tail}
+use Rattle.base.proofs.Lists.{all-head, all-tail, product-pos}
 use Rattle.roundtrip.proofs.Digits.{digitsOf, Prints}
 use Rattle.roundtrip.proofs.Fields.{printedFields, field-prints}
 
@@ -23,11 +23,6 @@ pub record FieldsFacts (ms os : List ℕ) : Type 0 where
   pub moduli : all (λ m. leb 1 m) ms ≡ true
   pub offsets : all (λ o. leb o largestOffset) os ≡ true
   pub in-range : product ms ≤ largestP
-
-pub product-pos : (ms : List ℕ) → all (λ m. leb 1 m) ms ≡ true → 1 ≤ product ms
-unfolding product
-product-pos [] h = omega arith
-product-pos (m ∷ ms) h = mul-pos (leb-true 1 m (all-head _ m ms h)) (product-pos ms (all-tail _ m ms h))
 
 -- what holds of the first field
 pub record FirstFacts (m : ℕ) (ms : List ℕ) (o : ℕ) (os : List ℕ) : Type 0 where

@@ -24,7 +24,7 @@ use Rattle.rules.specs.Text.{isDigit, isAllowed, fieldsOf, fieldsCount}
 use Rattle.rules.specs.Stamp.{slashIn, frontOk, frontNumber, holds, encodedIn, encodeNamed, stampAt, readStamp}
 use Rattle.rules.specs.Print.{digitCount, padded, partitionOf, decodedIn, stampPrint}
 use Rattle.roundtrip.specs.RoundTrip.{TenSlots, StampReadsBack, StampPrintsShort, longestStampPrint}
-use Rattle.roundtrip.proofs.Lists.{all-getD}
+use Rattle.base.proofs.Lists.{all-getD}
 use Rattle.roundtrip.proofs.Digits.{Prints, padded-prints, padded-length, digits-needed}
 use Rattle.roundtrip.proofs.Fields.{one-field, digits-allowed}
 use Rattle.roundtrip.proofs.Split.{present}

@@ -19,7 +19,7 @@ use Rattle.rules.specs.Partitions.{Partitions, partitionsIn, startOf, endOf, pa
 use Rattle.rules.specs.Text.{isAllowed, fieldsOf, fieldsCount, readText}
 use Rattle.rules.specs.Stamp.{slashIn, holds, encodedIn, encodeFound, encodeFirst, stampAt, readStamp}
 use Rattle.roundtrip.specs.Unnamed.{Holds, FirstToHold, NoneHolds, UnnamedStamp, UnnamedRefused}
-use Rattle.roundtrip.proofs.Lists.{all-getD}
+use Rattle.base.proofs.Lists.{all-getD}
 use Rattle.roundtrip.proofs.Answers.{not-answer, unless-test, unless-rest}
 
 module _ (p : Partitions) (c : ℕ) where
