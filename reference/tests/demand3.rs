@@ -165,7 +165,11 @@ fn on_random_pairs() {
             if random.chance(30) {
                 e = random.near(total(&old));
             }
-            let (len, fills) = (random.between(0, 24) as usize, (random.word() as u8, random.word() as u8));
+            // A length near one of the two prints', or any.
+            let lengths = [print(&old, e, 99, 0), print(&new, e, 99, 0)].map(|print| print.map_or(0, |text| text.len()));
+            let near = random.pick(&lengths) as u64 + random.between(0, 2);
+            let any = random.between(1, 24);
+            let (len, fills) = ((random.pick(&[near, any]) as usize).saturating_sub(1), (random.word() as u8, random.word() as u8));
             let (old_print, new_print) = (print(&old, e, len, fills.0), print(&new, e, len, fills.1));
             if exception && e == total(&old) {
                 // "In the one exception each table prints the older's total as "Printing" says, or refuses 16: the older
@@ -187,7 +191,8 @@ fn on_random_pairs() {
             assert!(seen.claim("time-of", ask(&old), ask(&new), &[12]));
 
             let near = random.pick(&new.time) + random.between(0, 80) as i64 - 40;
-            let t = random.pick(&[near, near, near, near, i64::MIN, i64::MAX, 4_000_000_000_000_000_000]);
+            let far = random.pick(&[i64::MIN, i64::MAX, common::LATEST, -common::LATEST]);
+            let t = if random.chance(95) { near } else { far };
             let ask = |tables: &Tables| count_at(&tables.layout, tables.partitions(), tables.segments(), t);
             let holds = seen.claim("count-at", ask(&old), ask(&new), &[14]);
             assert!(holds || steps);

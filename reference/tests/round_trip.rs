@@ -51,7 +51,7 @@ fn reading_a_print_gives_its_count() {
 #[test]
 fn times_by_their_definition() {
     let mut random = Random::new(2);
-    let (mut times, mut counts, mut returns, mut stops) = (0, 0, 0, 0);
+    let (mut times, mut counts, mut returns, mut stops, mut beyond, mut above) = (0, 0, 0, 0, 0, 0);
     for _ in 0..6_000 {
         let tables = tables::sound(&mut random);
         let (layout, partitions, segments) = (tables.layout, tables.partitions(), tables.segments());
@@ -63,7 +63,8 @@ fn times_by_their_definition() {
         for _ in 0..10 {
             let mut e = random.between(0, total);
             if random.chance(50) {
-                e = random.near(random_of(&mut random, count));
+                let edge = random.pick(count);
+                e = random.near(edge);
             }
             match time_of(&layout, partitions, segments, e) {
                 Ok(answer) => {
@@ -82,7 +83,8 @@ fn times_by_their_definition() {
             }
             let mut t = time[0] + random.magnitude(1 << 40) as i64;
             if random.chance(50) {
-                t = random.near(random_of(&mut random, time) as u64) as i64;
+                let edge = random.pick(time);
+                t = random.near(edge as u64) as i64;
             }
             let i = (0..time.len()).rev().find(|&i| time[i] <= t);
             match count_at(&layout, partitions, segments, t) {
@@ -97,14 +99,20 @@ fn times_by_their_definition() {
                     counts += 1;
                 }
                 Err(13) => assert!(i.is_none()),
-                Err(14) => assert!(t > 4_000_000_000_000_000_000 || i == Some(time.len() - 1)),
+                Err(14) if !(-common::LATEST..=common::LATEST).contains(&t) => beyond += 1,
+                Err(14) => {
+                    // The last segment's line is past the total by a whole tick.
+                    let i = i.unwrap();
+                    assert_eq!(i, time.len() - 1);
+                    let ticks = i128::from(total + 1 - count[i]);
+                    assert!(i128::from(t - time[i]) * unit >= i128::from(rate[i]) * ticks);
+                    above += 1;
+                }
                 other => panic!("{:?}", other),
             }
         }
     }
-    assert!(times > 10_000 && counts > 10_000 && returns > 5_000 && stops > 100, "{} {} {} {}", times, counts, returns, stops);
-}
-
-fn random_of<T: Copy>(random: &mut Random, list: &[T]) -> T {
-    random.pick(list)
+    println!("{} {} {} {} {} {}", times, counts, returns, stops, beyond, above);
+    assert!(times > 10_000 && counts > 10_000 && returns > 5_000);
+    assert!(stops > 100 && beyond > 100 && above > 1_000);
 }
