@@ -2,6 +2,9 @@
 //!
 //! Words in quotation marks in the comments are document 01's. Every public call checks the tables it uses.
 
+// Ranges are written as document 01 writes them.
+#![allow(clippy::manual_range_contains)]
+
 mod double;
 mod layout;
 mod message;

@@ -15,12 +15,7 @@ pub fn print_count(layout: &Layout, count: u64, buffer: &mut [u8]) -> Result<usi
 }
 
 /// Encoded count to stamp. "A stamp has the partition number, unpadded, and `/` in front."
-pub fn print_stamp(
-    layout: &Layout,
-    partitions: Partitions,
-    e: u64,
-    buffer: &mut [u8],
-) -> Result<usize, Refusal> {
+pub fn print_stamp(layout: &Layout, partitions: Partitions, e: u64, buffer: &mut [u8]) -> Result<usize, Refusal> {
     let clock = layout.check()?;
     let total = partitions.check(clock.p)?;
     // "encoded count above the total"

@@ -6,8 +6,7 @@ use crate::{read_stamp, time_of, Layout, Partitions, Refusal, Segments};
 /// "Table A: moduli 100, 10; offsets 0; delimiter 1. Partitions 0..500 and 200..900 [..]. Segments (0, -1000, 25,000)
 /// and (600, 1000, 30,000)."
 pub fn table_a() -> (Layout, Partitions<'static>, Segments<'static>) {
-    let layout =
-        Layout { n: 2, moduli: [100, 10, 0, 0, 0, 0, 0, 0, 0, 0], offsets: [0; 10], delimiter: 1 };
+    let layout = Layout { n: 2, moduli: [100, 10, 0, 0, 0, 0, 0, 0, 0, 0], offsets: [0; 10], delimiter: 1 };
     let partitions = Partitions { start: &[0, 200], end: &[500, 900] };
     let segments = Segments { count: &[0, 600], time: &[-1_000, 1_000], rate: &[25_000, 30_000] };
     (layout, partitions, segments)

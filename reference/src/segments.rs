@@ -36,11 +36,8 @@ impl<'a> Segments<'a> {
             // "Each segment ends at the next one's count, the last at the total"
             let end = if i == last { total } else { self.count[i + 1] };
             // "Counts grow strictly, the last is at most the total. Times grow strictly"
-            let grows = if i == last {
-                self.count[i] <= end
-            } else {
-                self.count[i] < end && self.time[i] < self.time[i + 1]
-            };
+            let grows =
+                if i == last { self.count[i] <= end } else { self.count[i] < end && self.time[i] < self.time[i + 1] };
             // "the time reached there by the segment's own line, rounded up, is at most 4×10^18"
             if !grows || self.line_passes(i, end, Self::LATEST, msf) {
                 return Err(3);

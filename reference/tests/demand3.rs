@@ -166,10 +166,12 @@ fn on_random_pairs() {
                 e = random.near(total(&old));
             }
             // A length near one of the two prints', or any.
-            let lengths = [print(&old, e, 99, 0), print(&new, e, 99, 0)].map(|print| print.map_or(0, |text| text.len()));
+            let lengths =
+                [print(&old, e, 99, 0), print(&new, e, 99, 0)].map(|print| print.map_or(0, |text| text.len()));
             let near = random.pick(&lengths) as u64 + random.between(0, 2);
             let any = random.between(1, 24);
-            let (len, fills) = ((random.pick(&[near, any]) as usize).saturating_sub(1), (random.word() as u8, random.word() as u8));
+            let (len, fills) =
+                ((random.pick(&[near, any]) as usize).saturating_sub(1), (random.word() as u8, random.word() as u8));
             let (old_print, new_print) = (print(&old, e, len, fills.0), print(&new, e, len, fills.1));
             if exception && e == total(&old) {
                 // "In the one exception each table prints the older's total as "Printing" says, or refuses 16: the older
@@ -249,10 +251,7 @@ fn the_exception_at_its_smallest() {
 #[test]
 fn a_newer_that_steps_back() {
     let layout = common::plain(&[3]);
-    let older = (
-        Partitions { start: &[0], end: &[1] },
-        Segments { count: &[0], time: &[0], rate: &[1_000] },
-    );
+    let older = (Partitions { start: &[0], end: &[1] }, Segments { count: &[0], time: &[0], rate: &[1_000] });
     let newer = (
         Partitions { start: &[0, 0], end: &[1, 1] },
         Segments { count: &[0, 2], time: &[0, 1], rate: &[1_000, 1_000] },

@@ -29,7 +29,9 @@ fn outcomes() -> Vec<String> {
         ("back", "ok", vec![double, "15, given not finite"]),
     ] {
         all.extend(answers.split('|').map(|answer| format!("{} {}", call, answer)));
-        all.extend(refusals.iter().flat_map(|list| list.split('|')).map(|refusal| format!("{} refused {}", call, refusal)));
+        all.extend(
+            refusals.iter().flat_map(|list| list.split('|')).map(|refusal| format!("{} refused {}", call, refusal)),
+        );
     }
     all
 }
@@ -88,6 +90,7 @@ fn every_outcome_comes_up() {
     }
     assert!(tally.rules.keys().all(|rule| RULES.contains(rule)));
     assert_ne!(script.last(), Some(&10));
+    assert!(script.iter().all(|byte| (32..127).contains(byte) || [9, 10, 13].contains(byte)));
 }
 
 #[test]

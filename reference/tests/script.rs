@@ -53,7 +53,10 @@ fn refusals() {
 #[test]
 fn at_the_start_nothing_is_there() {
     assert_eq!(ask("read-text 31\nprint-stamp 0 1 1\nsteps-back"), "refused 1\nrefused 1 01\nrefused 1\n");
-    assert_eq!(ask("layout 1 1 5 0 0 0 0 0 0 0 0 0 0 0 0 0 0 0 0 0 0 0\nread-text 31\nsteps-back\n"), "ok 1\nrefused 2\n");
+    assert_eq!(
+        ask("layout 1 1 5 0 0 0 0 0 0 0 0 0 0 0 0 0 0 0 0 0 0 0\nread-text 31\nsteps-back\n"),
+        "ok 1\nrefused 2\n"
+    );
 }
 
 #[test]
@@ -79,7 +82,10 @@ fn the_range_of_numbers() {
     assert_eq!(ask_a("time-of 18446744073709551615\ntime-of 18446744073709551616"), "refused 12\nbad line\n");
     assert_eq!(ask_a("time-of 000000000000000000000000000600\ncount-at -00997"), "ok 1000\nok 1\n");
     assert_eq!(ask_a("time-of -1\ntime-of +1\ncount-at +1\ncount-at -\ncount-at --1"), "bad line\n".repeat(5));
-    assert_eq!(ask_a("print-count 1 256 4\nprint-count 1 255 257\nprint-count 1 255 1"), "bad line\nbad line\nrefused 16 ff\n");
+    assert_eq!(
+        ask_a("print-count 1 256 4\nprint-count 1 255 257\nprint-count 1 255 1"),
+        "bad line\nbad line\nrefused 16 ff\n"
+    );
     let whole = ask_a("print-count 1 255 256");
     assert_eq!(whole, format!("ok 4 30302e31{}\n", "ff".repeat(252)));
 }
@@ -112,7 +118,9 @@ fn long_lines() {
 
 #[test]
 fn a_list_holds_10_001_entries() {
-    for (list, empty) in [("start 5", "partitions"), ("end 5", "partitions"), ("time -5", "segments"), ("rate 5", "segments")] {
+    for (list, empty) in
+        [("start 5", "partitions"), ("end 5", "partitions"), ("time -5", "segments"), ("rate 5", "segments")]
+    {
         let lines = [list, "\n"].concat();
         assert_eq!(ask(&lines.repeat(10_001)), "");
         assert_eq!(ask(&lines.repeat(10_002)), "bad line\n");

@@ -53,9 +53,8 @@ fn limits_of_partitions() {
 fn limits_of_segments() {
     let wide = plain(&[1_000, E12]);
     let partitions = Partitions { start: &[0], end: &[E15 - 1] };
-    let rows = |count: &[u64], time: &[i64], rate: &[u64]| {
-        time_of(&wide, partitions, Segments { count, time, rate }, E15 - 1)
-    };
+    let rows =
+        |count: &[u64], time: &[i64], rate: &[u64]| time_of(&wide, partitions, Segments { count, time, rate }, E15 - 1);
     // 1,000×MSF is 10^15: the one rate there is.
     assert_eq!(rows(&[0], &[0], &[E15]), Ok(E15 as i64 - 1));
     assert_eq!(rows(&[0], &[0], &[E15 - 1]), Err(3));

@@ -56,8 +56,7 @@ fn run() -> Result<u64, String> {
 /// The library's answers and the program's.
 fn ask(program: &str, script: &[u8]) -> Result<(Vec<u8>, Vec<u8>), String> {
     let failed = |error: std::io::Error| format!("{}: {}", program, error);
-    let mut child =
-        Command::new(program).stdin(Stdio::piped()).stdout(Stdio::piped()).spawn().map_err(failed)?;
+    let mut child = Command::new(program).stdin(Stdio::piped()).stdout(Stdio::piped()).spawn().map_err(failed)?;
     let mut input = child.stdin.take().ok_or("no input")?;
     let mut output = child.stdout.take().ok_or("no output")?;
     let (expected, given) = std::thread::scope(|scope| {
@@ -88,7 +87,7 @@ fn difference(script: &[u8], given: &[u8]) -> String {
             continue;
         }
         answer.pop();
-        let other = given.next().unwrap_or(b"");
+        let other = given.next().unwrap_or(b"no answer");
         if answer != other {
             return format!(
                 "{}{}\n# line {} of the chunk\n# the library: {}\n# the program: {}",

@@ -9,6 +9,18 @@ const E15: u64 = 1_000_000_000_000_000;
 const E12: u64 = 1_000_000_000_000;
 const LATEST: i64 = Segments::LATEST;
 
+/// Products of 2^64 and little or nothing more.
+pub const WRAPPING: &[(u64, u64)] = &[
+    (1 << 32, 1 << 32),
+    (1 << 63, 2),
+    (2, 1 << 63),
+    (1 << 52, 1 << 12),
+    ((1 << 63) + 5, 2),
+    (2, (1 << 63) + 5),
+    (6_148_914_691_236_517_206, 3),
+    (3, 6_148_914_691_236_517_210),
+];
+
 pub const LAYOUT_RULES: usize = 8;
 pub const PARTITION_RULES: usize = 8;
 pub const SEGMENT_RULES: usize = 17;
@@ -29,8 +41,7 @@ pub fn break_layout(random: &mut Random, tables: &mut Tables, rule: usize) {
         5 => {
             // The product wraps in 64 bits.
             layout.n = 2;
-            let (first, second) =
-                random.pick(&[(1 << 32, 1 << 32), (1 << 63, 2), (2, 1 << 63), (1 << 52, 1 << 12), (1 << 62, 12)]);
+            let (first, second) = random.pick(WRAPPING);
             layout.moduli[0] = first;
             layout.moduli[1] = second;
         }

@@ -6,11 +6,11 @@ use crate::script::{Question, LONGEST_LINE, MOST_BYTES};
 /// Lines that are none of the protocol's, or have a number outside its range.
 #[rustfmt::skip]
 const BAD: &[&[u8]] = &[
-    b"x", b"read", b" ", b"  ", b"\t", b"\r", b".", b"-", b"0", b"\0", b"\xff", b" # no comment", b"ok 5", b"bad line",
+    b"x", b"read", b" ", b"  ", b"\t", b"\r", b".", b"-", b"0", b" # no comment", b"ok 5", b"bad line",
     b"read-text", b"read-text ", b" read-text 31", b"read-text  31", b"read-text 31 ", b"read-text 31 32",
     b"read-text 3", b"read-text 313", b"read-text 3g", b"read-text g3", b"read-text 3A", b"read-text 2E", b"read-text .31",
     b"read-text ..", b"read-text 31.", b"read-text 0x31", b"read-text -31", b"Read-text 31", b"READ-TEXT 31",
-    b"read_text 31", b"read-text\t31", b"read-text 31\r", b"read-texts 31", b"read-tex 31", b"read-text 31\0", b"read-text 3\xb1",
+    b"read_text 31", b"read-text\t31", b"read-text 31\r", b"read-texts 31", b"read-tex 31",
     b"read-stamp", b"read-stamp ", b"read-stamp 312f3", b"read-stamp 312F31", b"read-stamp 31 .", b"read-stamp 1/50.1",
     b"read-message", b"read-message 000", b"read-message 31 0001", b"read-message 310001 ",
     b"print-count", b"print-count 1", b"print-count 1 2", b"print-count 1 2 3 4", b"print-count 1 256 8",
@@ -64,12 +64,17 @@ const BAD: &[&[u8]] = &[
     b"rate", b"rate -5", b"rate 18446744073709551616", b"rate 1e3", b"rate 10000 ", b"rate\t10000",
 ];
 
+/// Bad lines with bytes that a stored file is better without.
+const RAW: &[&[u8]] =
+    &[b"\0", b"\xff", b"read-text 31\0", b"read-text 3\xb1", b"\0read-text 31", b"time-of\x0b1", b"\xc3\xa9"];
+
 /// Lines that are passed over.
-const PASSED: &[&[u8]] = &[b"", b"#", b"# a comment", b"#read-text 31", b"##", b"# \0\xff\r\t", b"#\r"];
+const PASSED: &[&[u8]] = &[b"", b"#", b"# a comment", b"#read-text 31", b"##", b"# \t", b"#\r", b"# read-text 31"];
 
 impl Writer {
     pub fn any_bad_line(&mut self) {
-        let line = self.random.pick(BAD);
+        let raw = self.raw && self.random.chance(10);
+        let line = self.random.pick(if raw { RAW } else { BAD });
         self.line(line);
     }
 
@@ -98,7 +103,8 @@ impl Writer {
 
     /// Lines of 8,192 bytes and one more, texts and messages of 2,000 bytes and one more.
     fn long_lines(&mut self) {
-        for (front, back) in [("time-of ", "600"), ("count-at -", "997"), ("print-stamp ", "500 1 6"), ("start ", "1")] {
+        for (front, back) in [("time-of ", "600"), ("count-at -", "997"), ("print-stamp ", "500 1 6"), ("start ", "1")]
+        {
             for len in [LONGEST_LINE, LONGEST_LINE + 1] {
                 let zeros = "0".repeat(len - front.len() - back.len());
                 let line = [front, &zeros, back].concat();
@@ -150,7 +156,8 @@ impl Writer {
             self.line(line.as_bytes());
         }
         self.layout(&layout);
-        for line in ["start 18446744073709551615", "end 18446744073709551615", "steps-back", "partitions", "steps-back"] {
+        for line in ["start 18446744073709551615", "end 18446744073709551615", "steps-back", "partitions", "steps-back"]
+        {
             self.questions += u64::from(line == "steps-back");
             self.line(line.as_bytes());
         }

@@ -18,7 +18,8 @@ use writer::Writer;
 pub const STORED_SEED: u64 = 1;
 pub const STORED_COUNT: u64 = 36_000;
 
-/// A script with a fixed part for every edge, then random questions up to the count. The last line has no byte 10.
+/// A script with a fixed part for every edge, then random questions up to the count. Plain text, but for a few tabs and
+/// returns; the last line has no byte 10.
 pub fn script(seed: u64, count: u64) -> Vec<u8> {
     let mut writer = Writer::new(seed);
     catalogue::all(&mut writer);
@@ -34,6 +35,7 @@ pub fn script(seed: u64, count: u64) -> Vec<u8> {
 /// A script of random questions, tables in force longer; large tables in few scripts only.
 pub fn fresh(seed: u64, count: u64) -> Vec<u8> {
     let mut writer = Writer::new(seed);
+    writer.raw = true;
     match writer.random.below(32) {
         0 => large::all(&mut writer),
         1 => catalogue::all(&mut writer),

@@ -123,12 +123,8 @@ fn any_size(random: &mut Random) -> Vec<u64> {
 
 /// Offsets, a delimiter, and anything in the slots that are not looked at.
 fn fill(random: &mut Random, moduli: &[u64]) -> Layout {
-    let mut layout = Layout {
-        n: moduli.len() as u64,
-        moduli: [0; 10],
-        offsets: [0; 10],
-        delimiter: random.between(1, 5) as u8,
-    };
+    let mut layout =
+        Layout { n: moduli.len() as u64, moduli: [0; 10], offsets: [0; 10], delimiter: random.between(1, 5) as u8 };
     let offsets = random.below(3);
     for i in 0..10 {
         let any = random.magnitude(1_000);

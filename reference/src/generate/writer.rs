@@ -12,11 +12,13 @@ pub struct Writer {
     pub tables: Tables,
     /// How many questions were asked, bad lines not counted.
     pub questions: u64,
+    /// Whether a line may have bytes that are no plain text.
+    pub raw: bool,
 }
 
 impl Writer {
     pub fn new(seed: u64) -> Writer {
-        Writer { random: Random::new(seed), script: vec![], tables: Tables::new(), questions: 0 }
+        Writer { random: Random::new(seed), script: vec![], tables: Tables::new(), questions: 0, raw: false }
     }
 
     /// Any line, as it is.
@@ -196,11 +198,24 @@ impl Writer {
     }
 }
 
-/// Tables as script lines.
+/// Tables as script lines, row by row.
 pub fn put_tables(tables: &Tables) -> Vec<u8> {
-    let mut writer = Writer::new(0);
-    writer.layout(&tables.layout);
-    writer.partitions(tables.partitions());
-    writer.segments(tables.segments());
-    writer.script
+    let Tables { layout, start, end, count, time, rate } = tables;
+    let slots = layout.moduli.iter().chain(&layout.offsets).map(|slot| format!(" {}", slot));
+    let mut lines = format!("layout {} {}{}\n", layout.n, layout.delimiter, slots.collect::<String>());
+    let mut row = |list: &str, value: Option<String>| {
+        if let Some(value) = value {
+            lines += &format!("{} {}\n", list, value);
+        }
+    };
+    for i in 0..start.len().max(end.len()) {
+        row("start", start.get(i).map(u64::to_string));
+        row("end", end.get(i).map(u64::to_string));
+    }
+    for i in 0..count.len().max(time.len()).max(rate.len()) {
+        row("count", count.get(i).map(u64::to_string));
+        row("time", time.get(i).map(i64::to_string));
+        row("rate", rate.get(i).map(u64::to_string));
+    }
+    lines.into_bytes()
 }

@@ -27,7 +27,9 @@ pub fn all(writer: &mut Writer) {
         writer.ask(Question::PrintStamp { e, fill: 35, len: 8 });
         writer.ask(Question::TimeOf(e));
     }
-    for t in [-1_001, -1_000, -999, -998, -997, -995, 0, 497, 498, 500, 700, 999, 1_000, 1_002, 1_003, 2_799, 2_802, 2_803] {
+    for t in
+        [-1_001, -1_000, -999, -998, -997, -995, 0, 497, 498, 500, 700, 999, 1_000, 1_002, 1_003, 2_799, 2_802, 2_803]
+    {
         writer.ask(Question::CountAt(t));
     }
     writer.ask(Question::StepsBack);
@@ -103,7 +105,11 @@ fn step_back(writer: &mut Writer) {
         writer.ask(Question::StepsBack);
         writer.ask(Question::CountAt(494));
         writer.ask(Question::CountAt(499));
-        writer.load(&tables(table_a().layout, &[(0, 500), (200, 900)], &[(0, -1_000, 25_000), (601, 494 + by, 30_000)]));
+        writer.load(&tables(
+            table_a().layout,
+            &[(0, 500), (200, 900)],
+            &[(0, -1_000, 25_000), (601, 494 + by, 30_000)],
+        ));
         writer.ask(Question::StepsBack);
         writer.ask(Question::CountAt(500));
         writer.ask(Question::TimeOf(600));

@@ -1,6 +1,7 @@
 //! Every limit of the tables, and one beyond it.
 
 use super::{layout, plain, tables};
+use crate::generate::broken::WRAPPING;
 use crate::generate::writer::Writer;
 use crate::script::{Question, Tables};
 use crate::{Layout, Segments};
@@ -20,15 +21,44 @@ fn layouts(writer: &mut Writer) {
     let ones = [1; 10];
     let mut layouts: Vec<Layout> = vec![];
     for moduli in [
-        &[0][..], &[1], &[2], &[E15 - 1], &[E15], &[E15 + 1], &[u64::MAX], &[1 << 63], &[1, E12 - 1], &[1, E12], &[1, E12 + 1],
-        &[999, E12], &[1_000, E12], &[1_001, E12], &[1_000, E12 + 1], &[E15, 1], &[E15 + 1, 1], &[E15, 2], &[1, 1, E12 + 1],
-        &[1 << 32, 1 << 32], &[1 << 63, 2], &[2, 1 << 63], &[u64::MAX, u64::MAX], &[1 << 52, 1 << 12], &[1 << 16, 1 << 48],
-        &[0, 5], &[5, 0], &[1 << 32, 1 << 32, 0], &[0, 1 << 32, 1 << 32], &[1_000, 1_000_000, 1_000_000],
-        &[1_000, 1_000_001, 1_000_000], &[1_001, 1_000_000, 1_000_000], &[31, 31, 31, 31, 31, 31, 31, 31, 31, 31],
-        &[32, 31, 31, 31, 31, 31, 31, 31, 31, 31], &[37, 31, 31, 31, 31, 31, 31, 31, 31, 31], &ones,
+        &[0][..],
+        &[1],
+        &[2],
+        &[E15 - 1],
+        &[E15],
+        &[E15 + 1],
+        &[u64::MAX],
+        &[1 << 63],
+        &[1, E12 - 1],
+        &[1, E12],
+        &[1, E12 + 1],
+        &[999, E12],
+        &[1_000, E12],
+        &[1_001, E12],
+        &[1_000, E12 + 1],
+        &[E15, 1],
+        &[E15 + 1, 1],
+        &[E15, 2],
+        &[1, 1, E12 + 1],
+        &[u64::MAX, u64::MAX],
+        &[1 << 16, 1 << 48],
+        &[5, (1 << 63) + 3, 2],
+        &[1, (1 << 63) + 3, 2],
+        &[0, 5],
+        &[5, 0],
+        &[1 << 32, 1 << 32, 0],
+        &[0, 1 << 32, 1 << 32],
+        &[1_000, 1_000_000, 1_000_000],
+        &[1_000, 1_000_001, 1_000_000],
+        &[1_001, 1_000_000, 1_000_000],
+        &[31, 31, 31, 31, 31, 31, 31, 31, 31, 31],
+        &[32, 31, 31, 31, 31, 31, 31, 31, 31, 31],
+        &[37, 31, 31, 31, 31, 31, 31, 31, 31, 31],
+        &ones,
     ] {
         layouts.push(plain(moduli));
     }
+    layouts.extend(WRAPPING.iter().map(|&(first, second)| plain(&[first, second])));
     for n in [0, 1, 9, 10, 11, 12, 100, 1 << 32, (1 << 32) + 1, u64::MAX] {
         layouts.push(Layout { n, moduli: [2; 10], offsets: [0; 10], delimiter: 1 });
     }
@@ -193,8 +223,28 @@ fn times(writer: &mut Writer) {
     for tables in [whole, early, late, zero] {
         writer.load(&tables);
         for t in [
-            i64::MIN, i64::MIN + 1, -LATEST - 1, -LATEST, -LATEST + 1, -LATEST + 7_999, -LATEST + 8_000, -1, 0, 1, 49, 50, 51,
-            LATEST - 8_000, LATEST - 95, LATEST - 94, LATEST - 93, LATEST - 1, LATEST, LATEST + 1, i64::MAX - 1, i64::MAX,
+            i64::MIN,
+            i64::MIN + 1,
+            -LATEST - 1,
+            -LATEST,
+            -LATEST + 1,
+            -LATEST + 7_999,
+            -LATEST + 8_000,
+            -1,
+            0,
+            1,
+            49,
+            50,
+            51,
+            LATEST - 8_000,
+            LATEST - 95,
+            LATEST - 94,
+            LATEST - 93,
+            LATEST - 1,
+            LATEST,
+            LATEST + 1,
+            i64::MAX - 1,
+            i64::MAX,
         ] {
             writer.ask(Question::CountAt(t));
         }

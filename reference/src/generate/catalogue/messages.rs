@@ -22,9 +22,21 @@ pub fn all(writer: &mut Writer) {
     }
     // Each refusal of a stamp, in a message.
     let two_long = "9".repeat(96);
-    for text in
-        ["x", "1/2/3", "/5", "1.2.3", ".5", "9999999999999999", &two_long, "0/1", "3/1", "1/50.1", "99.9", "1/50", " 30.0 "]
-    {
+    for text in [
+        "x",
+        "1/2/3",
+        "/5",
+        "1.2.3",
+        ".5",
+        "9999999999999999",
+        &two_long,
+        "0/1",
+        "3/1",
+        "1/50.1",
+        "99.9",
+        "1/50",
+        " 30.0 ",
+    ] {
         for payload in ["", "12"] {
             let message = [payload.as_bytes(), text.as_bytes(), &[0, text.len() as u8]].concat();
             writer.ask(Question::ReadMessage(&message));

@@ -31,13 +31,31 @@ pub fn all(writer: &mut Writer) {
 fn texts(writer: &mut Writer) {
     let over = "x".repeat(97);
     let many = "1.".repeat(50);
-    for text in [&over[..], &many, "1.2.3x", ".x", "x", "..", "..x", ".1000000000001001", "1.2.1000000000001001", "1 2 x"] {
+    for text in
+        [&over[..], &many, "1.2.3x", ".x", "x", "..", "..x", ".1000000000001001", "1.2.1000000000001001", "1 2 x"]
+    {
         writer.ask(Question::ReadText(text.as_bytes()));
         writer.ask(Question::ReadStamp(text.as_bytes()));
     }
     for stamp in [
-        "x/1.2.3", "/1.2.3", "0/1.2.3", "0/..", "0/.5", "0/x", "1 2/..", "3/9999999999999999", "0/9999999999999999",
-        "3/999999999999999.0", "0/999999999999999.0", "3/99.9", "0/99.9", "3/100", "1/99.9", "99.9", "/", "3/",
+        "x/1.2.3",
+        "/1.2.3",
+        "0/1.2.3",
+        "0/..",
+        "0/.5",
+        "0/x",
+        "1 2/..",
+        "3/9999999999999999",
+        "0/9999999999999999",
+        "3/999999999999999.0",
+        "0/999999999999999.0",
+        "3/99.9",
+        "0/99.9",
+        "3/100",
+        "1/99.9",
+        "99.9",
+        "/",
+        "3/",
     ] {
         writer.ask(Question::ReadStamp(stamp.as_bytes()));
     }
@@ -45,7 +63,9 @@ fn texts(writer: &mut Writer) {
 
 /// 17 and the tables, 17 and the text.
 fn messages(writer: &mut Writer) {
-    for message in [&b""[..], b"1", b"x\x00\x00", b"x\x00\x02", b"x\x00\x01", b"5\x00\x01", b"1.2.3x\x00\x61", b"3/99.9\x00\x06"] {
+    for message in
+        [&b""[..], b"1", b"x\x00\x00", b"x\x00\x02", b"x\x00\x01", b"5\x00\x01", b"1.2.3x\x00\x61", b"3/99.9\x00\x06"]
+    {
         writer.ask(Question::ReadMessage(message));
     }
 }
@@ -78,7 +98,9 @@ fn fields(writer: &mut Writer, good: &Tables) {
     tables.count[0] = 5;
     writer.load(&tables);
     const HUGE: &str = "1000000000001001";
-    for (first, second) in [("0", "0"), ("0", HUGE), (HUGE, "0"), (HUGE, HUGE), ("5", "0"), ("0", "5"), (HUGE, ""), ("0", "")] {
+    for (first, second) in
+        [("0", "0"), ("0", HUGE), (HUGE, "0"), (HUGE, HUGE), ("5", "0"), ("0", "5"), (HUGE, ""), ("0", "")]
+    {
         for front in ["", "0/", "1/", "3/"] {
             let stamp = format!("{}{}.{}", front, first, second);
             writer.ask(Question::ReadStamp(stamp.as_bytes()));
@@ -87,8 +109,19 @@ fn fields(writer: &mut Writer, good: &Tables) {
     }
     // The sum's 9 and 8; the sum's 9 and 10; 8 and 10; 8 and 11.
     for stamp in [
-        "999999999999999.0", "999999999999999.1", "3/999999999999999.1", "0/5.0", "3/0.5", "1/99.0", "0/100.9", "3/100.9",
-        "100000000000000.1", "100000000000001.1", "100000000000000.11", "0/100000000000001.2", "1/100000000000001.2",
+        "999999999999999.0",
+        "999999999999999.1",
+        "3/999999999999999.1",
+        "0/5.0",
+        "3/0.5",
+        "1/99.0",
+        "0/100.9",
+        "3/100.9",
+        "100000000000000.1",
+        "100000000000001.1",
+        "100000000000000.11",
+        "0/100000000000001.2",
+        "1/100000000000001.2",
     ] {
         writer.ask(Question::ReadStamp(stamp.as_bytes()));
     }

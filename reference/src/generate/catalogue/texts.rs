@@ -108,6 +108,13 @@ fn runs(writer: &mut Writer) {
             writer.ask(Question::ReadText(number.as_bytes()));
         }
     }
+    // A field times its weight that is 2^64 and little more.
+    writer.layout(&plain(&[1_000, 1 << 39]));
+    for first in [1 << 24, (1 << 25) - 1, 1 << 25, (1 << 25) + 1, 3 << 25] {
+        writer.ask(Question::ReadText(format!("{}", first).as_bytes()));
+        writer.ask(Question::ReadText(format!("{}.5", first).as_bytes()));
+    }
+    writer.load(&table_a());
     for number in &numbers {
         writer.ask(Question::ReadText(format!("5.{}", number).as_bytes()));
         writer.ask(Question::ReadStamp(format!("{}/5", number).as_bytes()));
