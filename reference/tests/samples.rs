@@ -122,8 +122,9 @@ fn sound_tables_are_accepted() {
 /// Where the stored samples are there, they are what the generator gives.
 #[test]
 fn stored_samples_are_current() {
-    let read = |name: &str| std::fs::read(["../crates/cases/", name].concat());
-    if let (Ok(stored_script), Ok(stored_answers)) = (read("stdin"), read("stdout")) {
+    let read = |name: &str| std::fs::read(["../crates/cases/", name].concat()).unwrap_or_default();
+    let (stored_script, stored_answers) = (read("stdin"), read("stdout"));
+    if !stored_script.is_empty() || !stored_answers.is_empty() {
         let script = script(STORED_SEED, STORED_COUNT);
         assert!(stored_script == script, "crates/cases/stdin is not the generator's script");
         assert!(stored_answers == answers(&script), "crates/cases/stdout is not the library's answers");

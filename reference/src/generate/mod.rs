@@ -52,7 +52,7 @@ impl Writer {
     fn block(&mut self, most: usize) {
         let mut tables = tables::sound(&mut self.random);
         let random = &mut self.random;
-        // The rarer faults come at the end of a table's questions, with less of them.
+        // Broken tables get fewer questions.
         let broken = random.chance(16);
         let questions = 1 + if broken { random.below(12) } else { most / 2 + random.below(most) };
         if broken {
