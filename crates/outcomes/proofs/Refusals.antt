@@ -13,7 +13,8 @@ use Rattle.base.proofs.Tests.{by-test, or-first, or-second, all-of-head, all-of
 use Rattle.rules.specs.Limits.{longestText}
 use Rattle.rules.specs.declared.Layout.{Layout}
 use Rattle.rules.specs.Answer.{Answer, answer, refused, unless, andThen}
-use Rattle.rules.specs.Partitions.{Partitions, partitionsIn}
+use Rattle.rules.specs.Layout.{layoutOk}
+use Rattle.rules.specs.Partitions.{Partitions, partitionsIn, partitionsOk}
 use Rattle.rules.specs.Segments.{Segments}
 use Rattle.rules.specs.Text.{Field, readText, fieldsCount, fieldsOf, eachField}
 use Rattle.rules.specs.Stamp.{readStamp, stampAt, slashIn, encodeNamed, encodeFound, encodeFirst, frontNumber, holds}
@@ -113,7 +114,7 @@ unfolding readMessage readStamp messageRefusals among unless
 message-only l p m =
     by-test (messageOk m)
     (λ t. rw (t, message-short m t)
-    (rung messageRefusals 1 _ _ refl (rung messageRefusals 2 _ _ refl (stamp-only messageRefusals refl refl refl refl refl refl refl p l (textIn m) (slashIn (textIn m))))))
+    (rung messageRefusals 1 (layoutOk l) _ refl (rung messageRefusals 2 (partitionsOk l p) _ refl (stamp-only messageRefusals refl refl refl refl refl refl refl p l (textIn m) (slashIn (textIn m))))))
     (λ f. rw f (refuses messageRefusals 17 refl))
 
 pub only-those : Refusals
