@@ -1,9 +1,9 @@
 -- The double form refuses with 15 and no other number.
 use Prim.Native.Nat.{ℕ}
-use mathlib.Core.Path.{_≡_, sym}
+use mathlib.Core.Path.{_≡_}
 use mathlib.Core.Bool.{Bool, true, false}
 use lib.Ieee.{Float}
-use Rattle.rules.specs.Answer.{Answer, answer, refused, unless}
+use Rattle.rules.specs.Answer.{Answer, refused, unless}
 use Rattle.doubles.specs.declared.DoubleSegment.{DoubleSegment}
 use Rattle.doubles.specs.Doubles.{finiteAnswer, forwardDouble, backDouble}
 
