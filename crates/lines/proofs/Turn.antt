@@ -4,11 +4,12 @@ use mathlib.Core.Path.{_≡_, refl, sym, ap, _∙_}
 use mathlib.Core.Bool.{Bool, true, false, cond}
 use mathlib.Core.List.{List, [], _∷_, _++_, append-nil, append-assoc}
 use lib.Dec.{eqb}
-use lib.ListN.{length, take, drop, length-take, take-append-drop}
+use lib.ListN.{length, take, drop, length-take, take-append-drop, drop-of-length-le}
 use lib.Seq.{take-append-seam, drop-drop}
 use native.Mathlib.Nat.{suc-add}
 use native.Mathlib.Omega.{arith}
 use Rattle.base.proofs.Tests.{by-test}
+use Rattle.lines.specs.declared.LineStep.{LineStep}
 use Rattle.lines.specs.Lines.{lineEnd, lineBuffer, keptOf}
 use Rattle.lines.specs.Steps.{Carried, carried, withNext, fed, lineLeft, lineIn, endsIn, takenIn, keptWith, nextLine, lineAfter, carriedOn}
 use Rattle.lines.proofs.Whole.{fed-join, next-end, next-byte, kept-again, kept-all, kept-fits}
@@ -67,14 +68,21 @@ module _ (chunk : List ℕ) (at : ℕ) (line : List ℕ) (kept : ℕ) where
       fits : length (take kept line) ≤ lineBuffer
       fits = rw length-take (omega arith)
 
-  -- the same of the line under way alone, of which 0 bytes are kept after a line has ended
+-- The same of the line under way alone, as a loop over a chunk meets it: after a line has ended, 0 bytes of the next are kept.
+module _ {whole : List ℕ} (chunk : List ℕ) (at : ℕ) (line : List ℕ) (kept : ℕ) (so-far : whole ≡ lineLeft (take kept line) (drop at chunk)) where
   pub left-turn :
-      kept ≤ lineBuffer
-      → lineLeft (take kept line) (drop at chunk)
-      ≡ lineLeft
-      (take (cond (nextLine chunk at line kept .ended) 0 (nextLine chunk at line kept .kept)) (lineAfter chunk at line kept))
-      (drop (nextLine chunk at line kept .at) chunk)
-  left-turn h =
-      sym (left-alone [] (take kept line) (drop at chunk))
-      ∙ ap (λ c. c .line) (step-turn [] h)
-      ∙ settled [] (nextLine chunk at line kept .ended) (nextLine chunk at line kept .kept) (lineAfter chunk at line kept) (drop (nextLine chunk at line kept .at) chunk)
+      {r : LineStep} {out : List ℕ} {next : ℕ}
+      → kept ≤ lineBuffer
+      → r ≡ nextLine chunk at line kept
+      → out ≡ lineAfter chunk at line kept
+      → next ≡ cond (r .ended) 0 (r .kept)
+      → whole ≡ lineLeft (take next out) (drop (r .at) chunk)
+  left-turn {r} {out} {next} h er eo en =
+      so-far
+      ∙ sym (left-alone [] (take kept line) (drop at chunk))
+      ∙ ap (λ c. c .line) (step-turn chunk at line kept [] h)
+      ∙ rw (← er, ← eo, en) (settled [] (r .ended) (r .kept) out (drop (r .at) chunk))
+
+  pub left-done : length chunk ≤ at → take kept line ≡ whole
+  unfolding lineLeft fed carried
+  left-done h = sym (so-far ∙ rw (drop-of-length-le chunk h))
