@@ -1,9 +1,9 @@
--- What the loops of the code meet.
+-- The loops of the code: where a line ends, and a copy as far as there is room.
 use Prim.Native.Nat.{ℕ, _+_, _-_, _≤_, _<_, min}
 use mathlib.Core.Path.{_≡_, sym, _∙_}
 use mathlib.Core.List.{List}
 use lib.ListN.{length, getD, drop, set, drop-of-length-le}
-use lib.Seq.{paste, paste-zero, paste-suc}
+use lib.Seq.{paste, paste-suc}
 use borrow.Author.Tests.{eq-eqb, ne-eqb}
 use native.Mathlib.Omega.{arith}
 use native.Mathlib.Numerals.{add-one}
@@ -30,9 +30,6 @@ module _ (s : List ℕ) (at i : ℕ) (e : endOf s at ≡ endOf s i) where
 
 -- a copy of `part` behind the first `at` elements of `d`, element by element
 module _ (d : List ℕ) (at : ℕ) (part : List ℕ) where
-  pub copy-start : d ≡ paste d at part 0
-  copy-start = paste-zero d at part
-
   pub copy-next :
       {l : List ℕ} (n i : ℕ) → l ≡ paste d at part i → n ≡ min (length part) (length d - at) → i < n → set l (at + i) (getD part i 0) ≡ paste d at part (i + 1)
   copy-next {l} n i e m h = rw (e, add-one) (paste-suc d at part i 0 (omega arith) (omega arith))

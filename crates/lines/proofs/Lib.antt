@@ -1,4 +1,4 @@
--- Laws of lines: what the loops that find and keep a line meet, and what one step does.
+-- Laws and Step serve the proofs of the code. Whole has the theorems on whole inputs, Turn the laws of a loop over a chunk.
 pub mod Laws
 pub mod Step
 pub mod Whole

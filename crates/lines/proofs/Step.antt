@@ -1,6 +1,6 @@
 -- One step through a chunk, put together from the place where the line ends and the bytes kept.
 use Prim.Native.Nat.{ℕ, suc, _+_, _-_, _≤_, _<_, min}
-use mathlib.Core.Path.{_≡_, refl, sym, subst, ap, _∙_}
+use mathlib.Core.Path.{_≡_, refl, sym, subst, _∙_}
 use mathlib.Core.Bool.{true, false}
 use mathlib.Core.List.{List, [], _∷_, _++_}
 use lib.Dec.{eqb, ltb, leb, leb·suc-suc}
@@ -13,16 +13,13 @@ use Rattle.base.proofs.Tests.{by-test}
 use Rattle.lines.specs.Lines.{lineEnd, lineBuffer, keptOf}
 use Rattle.lines.specs.Steps.{lineIn, endsIn, takenIn, keptWith, nextLine, lineAfter}
 
-pub line-front : (bs : List ℕ) → take (length (lineIn bs)) bs ≡ lineIn bs
+line-front : (bs : List ℕ) → take (length (lineIn bs)) bs ≡ lineIn bs
 unfolding lineIn
 line-front [] = refl
 line-front (b ∷ bs) = by-test (eqb b lineEnd) (λ t. rw t) (λ f. rw (f, line-front bs))
 
-pub line-within : (bs : List ℕ) → length (lineIn bs) ≤ length bs
-line-within bs = omega (arith, ap length (line-front bs), length-take (length (lineIn bs)) bs)
-
 -- a line ended in a chunk is shorter than the chunk
-pub ends-short : (bs : List ℕ) → endsIn bs ≡ ltb (length (lineIn bs)) (length bs)
+ends-short : (bs : List ℕ) → endsIn bs ≡ ltb (length (lineIn bs)) (length bs)
 unfolding lineIn endsIn
 ends-short [] = refl
 ends-short (b ∷ bs) =

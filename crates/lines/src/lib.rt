@@ -1,8 +1,8 @@
 // The lines of an input that comes in chunks. A line buffer keeps what a program needs of the line under way:
 // its first 97 bytes, one more than the longest line may have.
 ghost use mathlib.Core.Path.{_≡_};
-ghost use Prim.Native.Nat.{_+_, _-_, _≤_, _<_, min};
-ghost use lib.ListN.{length, take, drop};
+ghost use Prim.Native.Nat.{_+_, _-_, _≤_, min};
+ghost use lib.ListN.{length, drop};
 ghost use lib.Seq.{paste};
 ghost use Rattle.lines.specs.Lines.{lineBuffer};
 ghost use Rattle.lines.specs.Steps.{lineIn, nextLine, lineAfter, Forward};

@@ -2,8 +2,8 @@ use Prim.Native.Nat.{_-_, _≤_}
 use mathlib.Core.Path.{_≡_}
 use borrow.Author.Needs.{needs}
 use lib.ListN.{length}
-use lib.Seq.{paste}
-use Rattle.lines.proofs.Laws.{copy-start, copy-next, copy-done}
+use lib.Seq.{paste, paste-zero}
+use Rattle.lines.proofs.Laws.{copy-next, copy-done}
 use Rattle.lines.proofs.keep.Statement.{statement}
 use Rattle.lines.proofs.keep.Tie as tie
 
@@ -24,7 +24,7 @@ keep-spec =
     μ-loop
     (λ c. search needs)
     (λ c κs. search needs)
-    (λ c. search (copy-start, needs))
+    (λ c. search (paste-zero, needs))
     (λ c. search needs)
     (λ c. search needs)
     (λ c. search needs)
