@@ -2,3 +2,8 @@
 pub mod Agreement
 pub mod Lists
 pub mod Signed
+pub mod Layouts
+pub mod Partitions
+pub mod Segments
+pub mod CountToTime
+pub mod TimeToCount

@@ -1,0 +1,52 @@
+-- One layout: the two tables read fields, print counts and tell the unit alike.
+use Prim.Native.Nat.{ℕ, _+_, _*_, _≤_, _<_}
+use native.Mathlib.Omega.{arith}
+use native.Mathlib.Nat.{one-le-mul}
+use mathlib.Core.Path.{_≡_}
+use mathlib.Core.Bool.{true}
+use mathlib.Core.List.{List, [], _∷_}
+use lib.ListN.{drop}
+use lib.Dec.{leb}
+use borrow.Author.Tests.{leb-true}
+use Rattle.base.specs.Scans.{all, product}
+use Rattle.base.proofs.Tests.{and-first, and-second}
+use Rattle.rules.specs.declared.Layout.{Layout}
+use Rattle.rules.specs.Layout.{moduliOf, offsetsOf, msfOf}
+use Rattle.rules.specs.Segments.{unitOf}
+use Rattle.rules.specs.Text.{Field, fieldsCount}
+use Rattle.rules.specs.Print.{countPrint}
+use Rattle.rules.specs.Facts.{LayoutFacts}
+
+-- the part of a layout that is looked at
+pub record OneLayout (l k : Layout) : Type 0 where
+  pub fields : k .n ≡ l .n
+  pub moduli : moduliOf k ≡ moduliOf l
+  pub offsets : offsetsOf k ≡ offsetsOf l
+  pub delimiter : k .delimiter ≡ l .delimiter
+
+module _ (l k : Layout) (one : OneLayout l k) where
+  pub unit-same : unitOf k ≡ unitOf l
+  unfolding unitOf msfOf
+  unit-same = rw (one .moduli)
+
+  pub fields-same : (fs : List Field) → fieldsCount k fs ≡ fieldsCount l fs
+  unfolding fieldsCount
+  fields-same fs = rw (one .moduli, one .offsets, one .fields)
+
+  pub print-same : (c : ℕ) → countPrint k c ≡ countPrint l c
+  unfolding countPrint
+  print-same c = rw (one .moduli, one .offsets, one .delimiter)
+
+positive : (ms : List ℕ) → all (λ m. leb 1 m) ms ≡ true → 1 ≤ product ms
+unfolding all product
+positive [] h = omega arith
+positive (m ∷ ms) h = one-le-mul (leb-true 1 m (and-first _ _ h)) (positive ms (and-second (leb 1 m) _ h))
+
+positive-after : (ms : List ℕ) → all (λ m. leb 1 m) ms ≡ true → 1 ≤ product (drop 1 ms)
+unfolding all product
+positive-after [] h = omega arith
+positive-after (m ∷ ms) h = positive ms (and-second (leb 1 m) _ h)
+
+pub unit-positive : (l : Layout) → LayoutFacts l → 1 ≤ unitOf l
+unfolding unitOf msfOf
+unit-positive l f = omega (arith, positive-after (moduliOf l) (f .moduli))
