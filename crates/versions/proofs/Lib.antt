@@ -7,3 +7,5 @@ pub mod Partitions
 pub mod Segments
 pub mod CountToTime
 pub mod TimeToCount
+pub mod Reading
+pub mod Printing

@@ -55,3 +55,21 @@ module _ (p q : Partitions) (kept : KeptPartitions p q) where
       let e : partitionsIn p - 1 + 1 ≡ partitionsIn p = omega arith in
       let up = rw e at (through-up (partitionsIn p - 1) (omega arith)) in
       omega (arith, before-up q (partitionsIn p) (partitionsIn q) (kept .more))
+
+  -- through the older's last partition, by its end in the newer, and through the one after it
+  pub through-kept : endOf q (partitionsIn p - 1) ≡ endOf p (partitionsIn p - 1) → lengthsBefore q (partitionsIn p - 1 + 1) ≡ totalOf p
+  through-kept e =
+      let i = partitionsIn p - 1 in
+      let b : i < partitionsIn p = omega arith in
+      omega (arith, total-through, before-next p i, before-next q i, before-same i b, kept .starts i b)
+
+  pub through-longer : (endOf q (partitionsIn p - 1) ≡ endOf p (partitionsIn p - 1) → ⊥) → totalOf p < lengthsBefore q (partitionsIn p - 1 + 1)
+  through-longer d =
+      let i = partitionsIn p - 1 in
+      let b : i < partitionsIn p = omega arith in
+      omega (arith, total-through, before-next p i, before-next q i, before-same i b, kept .starts i b, kept .older-rows i b)
+
+  pub through-next : partitionsIn p < partitionsIn q → totalOf p < lengthsBefore q (partitionsIn p - 1 + 1 + 1)
+  through-next m =
+      let i = partitionsIn p - 1 in
+      omega (arith, total-through, through-up i (omega arith), before-next q (i + 1), kept .newer-rows (i + 1) (omega arith))
