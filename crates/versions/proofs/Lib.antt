@@ -9,3 +9,6 @@ pub mod CountToTime
 pub mod TimeToCount
 pub mod Reading
 pub mod Printing
+pub mod Numbers
+pub mod Kept
+pub mod Demand3

@@ -74,16 +74,31 @@ pub record Agree {A : Type 0} (numbers : List ℕ) (older newer : Answer A) : Ty
   pub same : (a : A) → older ≡ answer a → newer ≡ answer a
   pub refuses : (a : A) (k : Refusal) → newer ≡ answer a → older ≡ refused k → oneOf numbers k ≡ true
 
+-- The four calls under a table.
+abbrev pub readBy : Table → List ℕ → Answer ℕ
+readBy t s = readStamp (t .layout) (t .partitions) s
+
+abbrev pub printBy : Table → ℕ → ℕ → Answer (List ℕ)
+printBy t e room = printStamp (t .layout) (t .partitions) e room
+
+abbrev pub timeBy : Table → ℕ → Answer ℤ
+timeBy t e = timeOf (t .layout) (t .partitions) (t .segments) e
+
+abbrev pub countBy : Table → ℤ → Answer ℕ
+countBy t time = countAt (t .layout) (t .partitions) (t .segments) time
+
 -- "An answer is all that a call returns .., and for printing the bytes printed as well"
 pub record Printed : Type 0 where
   pub returned : ℕ
   pub bytes : List ℕ
 
--- Printing e into a lent buffer: the length that the call returns, and as many bytes from the front of the buffer afterwards.
-unfoldable pub printed : Table → ℕ → List ℕ → Answer Printed
-printed t e buffer =
-    let r = printStamp (t .layout) (t .partitions) e (length buffer) in
-    andThen (lengthPrinted r) (λ n. answer (record { returned = n; bytes = take n (bufferAfter r buffer) }))
+-- the length that a print returns, and as many bytes from the front of its buffer afterwards
+unfoldable pub shown : Answer (List ℕ) → List ℕ → Answer Printed
+shown r buffer = andThen (lengthPrinted r) (λ n. answer (record { returned = n; bytes = take n (bufferAfter r buffer) }))
+
+-- printing e into a lent buffer
+abbrev pub printed : Table → ℕ → List ℕ → Answer Printed
+printed t e buffer = shown (printBy t e (length buffer)) buffer
 
 -- the stamp of the clock's count c in partition i, numbered from 1
 abbrev pub stampOf : Table → ℕ → ℕ → List ℕ
@@ -106,18 +121,18 @@ module _ (older newer : Table) where
 
   -- "In the one exception each table prints the older's total .., or refuses 16": two prints, and never the same.
   pub record Apart (e : ℕ) : Type 0 where
-    pub older-prints : (room : ℕ) → printStamp (older .layout) (older .partitions) e room ≡ fitting room olderPrint
-    pub newer-prints : (room : ℕ) → printStamp (newer .layout) (newer .partitions) e room ≡ fitting room newerPrint
+    pub older-prints : (room : ℕ) → printBy older e room ≡ fitting room olderPrint
+    pub newer-prints : (room : ℕ) → printBy newer e room ≡ fitting room newerPrint
     pub differ : olderPrint ≡ newerPrint → ⊥
 
   -- "Then ask both the same, in any of those four directions, whatever the stamp, count or time."
   pub record Demand3 : Type 0 where
     -- "a stamp with 10 or 11"
-    pub reading : (s : List ℕ) → Agree (10 ∷ 11 ∷ []) (readStamp (older .layout) (older .partitions) s) (readStamp (newer .layout) (newer .partitions) s)
+    pub reading : (s : List ℕ) → Agree (10 ∷ 11 ∷ []) (readBy older s) (readBy newer s)
     -- "a count to print .. with 12", into "two buffers of one length, whatever they hold"
     pub printing : (e : ℕ) (b c : List ℕ) → length b ≡ length c → (Exception e → ⊥) → Agree (12 ∷ []) (printed older e b) (printed newer e c)
     pub exception : (e : ℕ) → Exception e → Apart e
     -- "or to turn into time with 12"
-    pub time-of : (e : ℕ) → Agree (12 ∷ []) (timeOf (older .layout) (older .partitions) (older .segments) e) (timeOf (newer .layout) (newer .partitions) (newer .segments) e)
+    pub time-of : (e : ℕ) → Agree (12 ∷ []) (timeBy older e) (timeBy newer e)
     -- "a time with 14"
-    pub count-at : (t : ℤ) → Agree (14 ∷ []) (countAt (older .layout) (older .partitions) (older .segments) t) (countAt (newer .layout) (newer .partitions) (newer .segments) t)
+    pub count-at : (t : ℤ) → Agree (14 ∷ []) (countBy older t) (countBy newer t)
