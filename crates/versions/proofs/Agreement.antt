@@ -1,6 +1,5 @@
 -- Two answers agree where they are the same, or where the older is refused with one of the numbers; and steps that both take keep it so.
 use Prim.Native.Nat.{ℕ}
-use native.Mathlib.Omega.{arith}
 use mathlib.Core.Path.{_≡_, refl, sym, _∙_}
 use mathlib.Core.Bool.{Bool, true, false}
 use mathlib.Core.List.{List}

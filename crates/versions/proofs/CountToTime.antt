@@ -1,9 +1,8 @@
 -- The time of an encoded count: up to the older's total both tables choose one segment and follow one line.
-use Prim.Native.Nat.{ℕ, _+_, _-_, _≤_, _<_}
+use Prim.Native.Nat.{ℕ, _≤_, _<_}
 use native.Mathlib.Omega.{arith}
-use mathlib.Core.Path.{_≡_, refl, sym, _∙_}
-use mathlib.Core.Bool.{true, false}
-use mathlib.Core.List.{List, [], _∷_}
+use mathlib.Core.Path.{_≡_, refl, sym}
+use mathlib.Core.List.{[], _∷_}
 use mathlib.Core.Option.{Option, none, some}
 use lib.Dec.{leb}
 use borrow.Author.Tests.{leb-true, le-leb, lt-leb}
@@ -39,7 +38,7 @@ module _ (l k : Layout) (p q : Partitions) (g h : Segments) (one : OneLayout l k
   time-same e (some i) s = rw (line-same i e (last-found (λ i. leb (countOf g i) e) (segmentsIn g) i s .below))
 
   pub time-agrees : (e : ℕ)
-    → Agree (12 ∷ []) (unless 12 (leb e (totalOf p)) (timeIn l g e (segmentOf g e))) (unless 12 (leb e (totalOf q)) (timeIn k h e (segmentOf h e)))
+      → Agree (12 ∷ []) (unless 12 (leb e (totalOf p)) (timeIn l g e (segmentOf g e))) (unless 12 (leb e (totalOf q)) (timeIn k h e (segmentOf h e)))
   unfolding unless oneOf
   time-agrees e =
       by-test (leb e (totalOf p))

@@ -1,24 +1,21 @@
 -- "An older table never misleads about a newer stamp", for any two tables.
-use Prim.Native.Nat.{ℕ, _+_, _-_, _≤_, _<_}
+use Prim.Native.Nat.{ℕ, _≤_}
 use native.Mathlib.Omega.{arith}
-use mathlib.Core.Path.{_≡_, refl, sym, ap, _∙_}
-use mathlib.Core.Bool.{true, false, _&&_}
-use mathlib.Core.List.{List, [], _∷_, _++_}
+use mathlib.Core.Path.{_≡_, refl, ap}
+use mathlib.Core.List.{List, [], _∷_}
 use lib.Dec.{leb}
 use lib.IntN.{ℤ}
-use lib.ListN.{length, take, drop}
+use lib.ListN.{length, drop}
 use lib.Seq.{take-append-seam}
-use lib.Signed.{leZ}
 use borrow.Author.Tests.{leb-true, le-leb}
 use Rattle.base.proofs.Tests.{by-test}
-use Rattle.rules.specs.Limits.{earliestTime, latestTime}
 use Rattle.rules.specs.Answer.{Answer, answer, refused, unless, andThen}
 use Rattle.rules.specs.Layout.{layoutOk}
-use Rattle.rules.specs.Partitions.{partitionsOk, partitionsIn, startOf, endOf, totalOf}
+use Rattle.rules.specs.Partitions.{partitionsOk, totalOf}
 use Rattle.rules.specs.Stamp.{readStamp, slashIn}
 use Rattle.rules.specs.Print.{fitting, stampPrint, printStamp, lengthPrinted, bufferAfter}
 use Rattle.rules.specs.Time.{accepted, timeOf, countAt}
-use Rattle.versions.specs.Versions.{Table, Accepted, lastIn, Hypothesis, Says, oneOf, Agree, readBy, printBy, timeBy, countBy, Printed, shown, printed, Exception, Apart, olderPrint, newerPrint, Demand3}
+use Rattle.versions.specs.Versions.{Table, Accepted, Hypothesis, Says, oneOf, Agree, readBy, printBy, timeBy, countBy, Printed, shown, printed, Exception, Apart, olderPrint, newerPrint, Demand3}
 use Rattle.versions.proofs.Agreement.{agree-same, agree-refused, agree-unless}
 use Rattle.versions.proofs.Layouts.{OneLayout}
 use Rattle.versions.proofs.Partitions.{KeptPartitions, total-up}
@@ -91,7 +88,7 @@ module _ (older newer : Table) (was : Accepted older) (is : Accepted newer) (say
       (λ n. agree-refused 12 (rw (shown-print _ b, print-is older was, n)) refl)
 
   module _ (e : ℕ) (x : Exception older newer e) where
-    older-prints : (room : ℕ) → printBy older e room ≡ fitting room (olderPrint older newer)
+    older-prints : (room : ℕ) → printBy older e room ≡ fitting room (olderPrint older)
     unfolding stampPrint unless
     older-prints room =
         rw (print-is older was, le-leb e (totalOf (older .partitions)) (omega (arith, x .total)), older-last _ _ rows e (x .total), older-end _ _ rows e (x .total))

@@ -1,9 +1,9 @@
 -- What the hypotheses say, row by row.
-use Prim.Native.Nat.{ℕ, _+_, _-_, _≤_, _<_}
+use Prim.Native.Nat.{ℕ, _+_, _≤_, _<_}
 use native.Mathlib.Omega.{arith}
 use native.Mathlib.Nat.{le-trans}
 use mathlib.Core.Path.{_≡_, _∙_}
-use mathlib.Core.Bool.{true, false, _&&_}
+use mathlib.Core.Bool.{false}
 use lib.Dec.{ltb}
 use lib.IntN.{pos}
 use lib.ListN.{length, take, length-take}
@@ -15,25 +15,7 @@ use Rattle.rules.specs.Facts.{LayoutFacts, PartitionsFacts, SegmentsFacts}
 use Rattle.rules.specs.Partitions.{partitionsIn, endOf, totalOf}
 use Rattle.rules.specs.Segments.{segmentsIn, countOf, timeAt, unitOf, lineAt, stepsBackAt, stepsBack}
 use Rattle.rules.proofs.Accepted.{layout-facts, partitions-facts, segments-facts}
-use Rattle.versions.specs.Versions.{
-  Table,
-  Accepted,
-  lastIn,
-  Hypothesis,
-  same-n,
-  same-moduli,
-  same-offsets,
-  same-delimiter,
-  kept-starts,
-  kept-ends,
-  last-end,
-  kept-counts,
-  kept-times,
-  kept-rates,
-  further-counts,
-  no-step-back,
-  Says,
-}
+use Rattle.versions.specs.Versions.{Table, Accepted, lastIn, Hypothesis, same-n, same-moduli, same-offsets, same-delimiter, kept-starts, kept-ends, last-end, kept-counts, kept-times, kept-rates, further-counts, no-step-back, Says}
 use Rattle.versions.proofs.Lists.{begins-longer, begins-at, all-after}
 use Rattle.versions.proofs.Layouts.{OneLayout, unit-positive}
 use Rattle.versions.proofs.Partitions.{KeptPartitions}
@@ -86,7 +68,7 @@ module _ (older newer : Table) (was : Accepted older) (is : Accepted newer) (say
   unit = unit-positive (newer .layout) new-layout
 
   forward : (i : ℕ) → i + 1 < segmentsIn (newer .segments)
-    → ltZ (timeAt (newer .segments) (i + 1)) (lineAt (newer .layout) (newer .segments) i (countOf (newer .segments) (i + 1))) ≡ false
+      → ltZ (timeAt (newer .segments) (i + 1)) (lineAt (newer .layout) (newer .segments) i (countOf (newer .segments) (i + 1))) ≡ false
   unfolding stepsBack stepsBackAt
   forward i b =
       rw (lt-ltb (i + 1) (segmentsIn (newer .segments)) b)

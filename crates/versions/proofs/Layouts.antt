@@ -1,5 +1,5 @@
 -- One layout: the two tables read fields, print counts and tell the unit alike.
-use Prim.Native.Nat.{ℕ, _+_, _*_, _≤_, _<_}
+use Prim.Native.Nat.{ℕ, _≤_}
 use native.Mathlib.Omega.{arith}
 use native.Mathlib.Nat.{one-le-mul}
 use mathlib.Core.Path.{_≡_}

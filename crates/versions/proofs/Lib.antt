@@ -12,3 +12,7 @@ pub mod Printing
 pub mod Numbers
 pub mod Kept
 pub mod Demand3
+pub mod Meets
+pub mod Computing
+pub mod Needed
+pub mod Witness

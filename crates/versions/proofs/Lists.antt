@@ -1,11 +1,11 @@
 -- A list that begins with another, all of a list, and the last number that passes a test which fails from some number on.
-use Prim.Native.Nat.{ℕ, zero, suc, _+_, _-_, _≤_, _<_, min}
+use Prim.Native.Nat.{ℕ, zero, suc, _≤_, _<_}
 use native.Mathlib.Omega.{arith}
-use mathlib.Core.Path.{_≡_, refl, sym, ap, _∙_}
+use mathlib.Core.Path.{_≡_, sym, ap, _∙_}
 use mathlib.Core.Bool.{Bool, true, false}
 use mathlib.Core.List.{List, [], _∷_}
 use mathlib.Core.Logic.{⊎-elim}
-use lib.ListN.{length, take, drop, getD, length-take}
+use lib.ListN.{length, drop, getD, length-take}
 use lib.Seq.{getD-take}
 use borrow.Author.Tests.{leb-true, leb-false}
 use lib.Dec.{leb}

@@ -1,14 +1,9 @@
 -- The newer keeps the old partitions in place: row by row, and what that makes of the sums of lengths.
-use Prim.Native.Nat.{ℕ, zero, suc, _+_, _-_, _≤_, _<_}
+use Prim.Native.Nat.{ℕ, _+_, _-_, _≤_, _<_}
 use native.Mathlib.Omega.{arith}
-use native.Mathlib.Nat.{le-refl}
-use mathlib.Core.Path.{_≡_, refl, sym, _∙_}
-use mathlib.Core.List.{List}
-use lib.ListN.{length, take, getD, length-take}
-use lib.Seq.{getD-take}
+use mathlib.Core.Path.{_≡_}
 use lib.Dec.{ltb}
 use borrow.Author.Tests.{ltb-true, ltb-false}
-use Rattle.base.specs.Scans.{sumBelow}
 use Rattle.base.proofs.Tests.{by-test}
 use Rattle.base.proofs.Scans.{sum-next, sum-same, sum-up}
 use Rattle.rules.specs.Partitions.{Partitions, partitionsIn, startOf, endOf, lengthOf, lengthsBefore, totalOf}

@@ -1,12 +1,11 @@
 -- The newer keeps the old segments, and nowhere steps back: row by row.
-use Prim.Native.Nat.{ℕ, _+_, _-_, _*_, _≤_, _<_}
-use native.Mathlib.Omega.{arith}
-use mathlib.Core.Path.{_≡_, refl, sym, _∙_}
+use Prim.Native.Nat.{ℕ, _+_, _≤_, _<_}
+use mathlib.Core.Path.{_≡_}
 use mathlib.Core.Bool.{true, false}
 use lib.Signed.{ltZ}
 use Rattle.rules.specs.declared.Layout.{Layout}
 use Rattle.rules.specs.Partitions.{Partitions, totalOf}
-use Rattle.rules.specs.Segments.{Segments, segmentsIn, countOf, timeAt, rateOf, unitOf, lineAt}
+use Rattle.rules.specs.Segments.{Segments, segmentsIn, countOf, timeAt, rateOf, lineAt}
 
 -- l is the newer table's layout, p the older's partitions
 pub record KeptSegments (l : Layout) (p : Partitions) (g h : Segments) : Type 0 where

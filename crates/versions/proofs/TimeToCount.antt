@@ -1,18 +1,18 @@
 -- The count at a time: while the older's answer is at most its total, no further segment has begun, since the newer nowhere steps back.
-use Prim.Native.Nat.{ℕ, zero, suc, _+_, _-_, _*_, _/_, _≤_, _<_}
+use Prim.Native.Nat.{ℕ, zero, suc, _+_, _-_, _*_, _≤_, _<_}
 use native.Mathlib.Omega.{arith}
 use native.Mathlib.Nat.{mul-comm, le-div-iff-mul-le, div-lt-iff-lt-mul, add-zero}
 use mathlib.Core.Path.{_≡_, refl, sym, _∙_}
-use mathlib.Core.Bool.{Bool, true, false, _&&_, cond}
-use mathlib.Core.List.{List, [], _∷_}
-use mathlib.Core.Option.{Option, none, some}
+use mathlib.Core.Bool.{Bool, true, false}
+use mathlib.Core.List.{[], _∷_}
+use mathlib.Core.Option.{some}
 use mathlib.Core.Logic.{⊎-elim}
-use lib.Dec.{leb, ltb}
+use lib.Dec.{leb}
 use lib.IntN.{ℤ}
 use lib.Signed.{leZ, ltZ}
-use borrow.Author.Tests.{ltb-true, ltb-false, leb-true, leb-false, le-leb, lt-leb, lt-ltb, le-ltb}
+use borrow.Author.Tests.{ltb-true, ltb-false, leb-true, le-leb, lt-leb, lt-ltb}
 use Rattle.base.specs.Rounding.{roundUp, roundDown}
-use Rattle.base.specs.Signed.{elapsed, later}
+use Rattle.base.specs.Signed.{elapsed}
 use Rattle.base.proofs.Tests.{by-test}
 use Rattle.base.proofs.Scans.{Last, last-or, last-is, last-none}
 use Rattle.rules.specs.declared.Layout.{Layout}
@@ -35,7 +35,7 @@ up-within x d n h b = let m = div-lt-iff-lt-mul {k = d} {x = x + (d - 1)} {y = n
 
 -- a line that by its own count e was not later than u has reached e at any time from u on
 line-reaches : (l : Layout) (g : Segments) (i e : ℕ) (u t : ℤ) → 1 ≤ unitOf l → 1 ≤ rateOf g i
-  → ltZ u (lineAt l g i e) ≡ false → leZ u t ≡ true → e ≤ lineCount l g i t
+    → ltZ u (lineAt l g i e) ≡ false → leZ u t ≡ true → e ≤ lineCount l g i t
 unfolding lineAt lineCount roundDown
 line-reaches l g i e u t pu pr h b =
     let d = later-elapsed (timeAt g i) t (roundUp (rateOf g i * (e - countOf g i)) (unitOf l)) (not-later u _ t h b) in

@@ -43,6 +43,7 @@ pub data Hypothesis : Type 0 where
   kept-starts kept-ends last-end : Hypothesis
   kept-counts kept-times kept-rates further-counts : Hypothesis
   no-step-back : Hypothesis
+  deriving Discrete as Hypothesis-discrete
 
 module _ (older newer : Table) where
   abbrev pub Says : Hypothesis → Type 0
@@ -104,6 +105,14 @@ printed t e buffer = shown (printBy t e (length buffer)) buffer
 abbrev pub stampOf : Table → ℕ → ℕ → List ℕ
 stampOf t i c = padded 1 (i + 1) ++ (47 ∷ countPrint (t .layout) c)
 
+-- "the older prints the end of its last partition"
+abbrev pub olderPrint : Table → List ℕ
+olderPrint older = stampOf older (lastIn older) (endOf (older .partitions) (lastIn older))
+
+-- "the newer the start of the one after it"
+abbrev pub newerPrint : Table → Table → List ℕ
+newerPrint older newer = stampOf newer (lastIn older + 1) (startOf (newer .partitions) (lastIn older + 1))
+
 module _ (older newer : Table) where
   -- "printing the older's total, where the older's last partition kept its end and a partition was added"
   pub record Exception (e : ℕ) : Type 0 where
@@ -111,19 +120,11 @@ module _ (older newer : Table) where
     pub kept-end : endOf (newer .partitions) (lastIn older) ≡ endOf (older .partitions) (lastIn older)
     pub added : partitionsIn (older .partitions) < partitionsIn (newer .partitions)
 
-  -- "the older prints the end of its last partition"
-  abbrev pub olderPrint : List ℕ
-  olderPrint = stampOf older (lastIn older) (endOf (older .partitions) (lastIn older))
-
-  -- "the newer the start of the one after it"
-  abbrev pub newerPrint : List ℕ
-  newerPrint = stampOf newer (lastIn older + 1) (startOf (newer .partitions) (lastIn older + 1))
-
   -- "In the one exception each table prints the older's total .., or refuses 16": two prints, and never the same.
   pub record Apart (e : ℕ) : Type 0 where
-    pub older-prints : (room : ℕ) → printBy older e room ≡ fitting room olderPrint
-    pub newer-prints : (room : ℕ) → printBy newer e room ≡ fitting room newerPrint
-    pub differ : olderPrint ≡ newerPrint → ⊥
+    pub older-prints : (room : ℕ) → printBy older e room ≡ fitting room (olderPrint older)
+    pub newer-prints : (room : ℕ) → printBy newer e room ≡ fitting room (newerPrint older newer)
+    pub differ : olderPrint older ≡ newerPrint older newer → ⊥
 
   -- "Then ask both the same, in any of those four directions, whatever the stamp, count or time."
   pub record Demand3 : Type 0 where

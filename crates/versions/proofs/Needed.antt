@@ -1,0 +1,120 @@
+-- Every hypothesis is needed.
+use Prim.Native.Nat.{ℕ, _+_, _*_}
+use mathlib.Core.Path.{_≡_, refl, ap}
+use mathlib.Core.Bool.{Bool, true, false, not, _&&_, _||_}
+use mathlib.Core.List.{List, [], _∷_}
+use lib.Dec.{eqb, ltb}
+use lib.IntN.{pos, negsuc}
+use lib.ListN.{replicate}
+use borrow.Author.Tests.{eq-eqb, lt-ltb, not-true}
+use Rattle.base.specs.Scans.{allOf}
+use Rattle.base.proofs.Tests.{and-both, not-both}
+use Rattle.rules.specs.Answer.{Answer, answer, refused}
+use Rattle.rules.specs.Partitions.{partitionsIn, totalOf}
+use Rattle.versions.specs.Versions.{Table, Hypothesis, same-n, same-moduli, same-offsets, same-delimiter, kept-starts, kept-ends, last-end, kept-counts, kept-times, kept-rates, further-counts, no-step-back, Hypothesis-discrete, Agree, Exception, Demand3}
+use Rattle.versions.specs.Needed.{Question, stamp, print, time, count, Reply, number, text, instant, ask, Row, pair, Needed}
+use Rattle.versions.proofs.Computing.{computing}
+use Rattle.versions.proofs.Meets.{meets, meets-says, passes, passes-accepted, each, each-at, all-of-at}
+
+-- a number by which two replies are told apart
+byteCode : List ℕ → ℕ
+byteCode [] = 0
+byteCode (b ∷ s) = b + 256 * byteCode s
+
+code : Reply → ℕ
+code (number (answer n)) = n
+code (number (refused k)) = k
+code (text (answer p)) = byteCode (p .bytes)
+code (text (refused k)) = k
+code (instant (answer (pos n))) = n
+code (instant (answer (negsuc n))) = n
+code (instant (refused k)) = k
+
+isAnswer : {A : Type 0} → Answer A → Bool
+isAnswer (answer a) = true
+isAnswer (refused k) = false
+
+answered : Reply → Bool
+unfolding isAnswer
+answered (number a) = isAnswer a
+answered (text a) = isAnswer a
+answered (instant a) = isAnswer a
+
+same-answer : {A : Type 0} {ks : List ℕ} (a b : Answer A) → Agree ks a b → isAnswer a ≡ true → b ≡ a
+unfolding isAnswer
+same-answer (answer x) b h t = h .same x refl
+same-answer (refused k) b h t = absurd (not-both t refl)
+
+module _ (older newer : Table) where
+  outside : Question → Bool
+  outside (stamp s) = true
+  outside (print e) = not (eqb e (totalOf (older .partitions)) && ltb (partitionsIn (older .partitions)) (partitionsIn (newer .partitions)))
+  outside (time e) = true
+  outside (count t) = true
+
+  not-exception : (e : ℕ) → outside (print e) ≡ true → Exception older newer e → ⊥
+  unfolding outside
+  not-exception e t x = not-both (and-both (eq-eqb _ _ (x .total)) (lt-ltb _ _ (x .added))) (not-true _ t)
+
+  same-reply : Demand3 older newer → (q : Question) → outside q ≡ true → answered (ask older q) ≡ true → ask newer q ≡ ask older q
+  unfolding ask answered
+  same-reply d (stamp s) o t = ap number (same-answer _ _ (d .reading _) t)
+  same-reply d (print e) o t = ap text (same-answer _ _ (d .printing e (replicate 96 0) (replicate 96 0) refl (not-exception e o)) t)
+  same-reply d (time e) o t = ap instant (same-answer _ _ (d .time-of e) t)
+  same-reply d (count at) o t = ap number (same-answer _ _ (d .count-at at) t)
+
+isSame : Hypothesis → Hypothesis → Bool
+isSame k h = elim (Hypothesis-discrete k h) [ yes e ↦ true | no n ↦ false ]
+
+other-meets : (k h : Hypothesis) (t : Bool) → (isSame k h || t) ≡ true → (k ≡ h → ⊥) → t ≡ true
+other-meets k h t e n = go (Hypothesis-discrete k h) refl
+  where
+    go : (d : Dec (k ≡ h)) → Hypothesis-discrete k h ≡ d → t ≡ true
+    go (yes p) q = absurd (n p)
+    go (no m) q = unfold isSame in rw (q, isSame) at e
+
+-- The rows, by computation: the tests, and what the two tables reply.
+tests : Hypothesis → Row → List Bool
+tests h r =
+    passes (r .older)
+    ∷ passes (r .newer)
+    ∷ each (λ k. isSame k h || meets (r .older) (r .newer) k)
+    ∷ outside (r .older) (r .newer) (r .asked)
+    ∷ answered (ask (r .older) (r .asked))
+    ∷ not (eqb (code (ask (r .newer) (r .asked))) (code (ask (r .older) (r .asked))))
+    ∷ []
+
+record Computed (h : Hypothesis) (r : Row) : Type 0 where
+  tested : allOf (tests h r) ≡ true
+  older-replies : ask (r .older) (r .asked) ≡ r .older-says
+  newer-replies : ask (r .newer) (r .asked) ≡ r .newer-says
+
+computed : (h : Hypothesis) → Computed h (pair h)
+unfolding computing tests isSame outside answered isAnswer code byteCode
+computed same-n = record { tested = refl; older-replies = refl; newer-replies = refl }
+computed same-moduli = record { tested = refl; older-replies = refl; newer-replies = refl }
+computed same-offsets = record { tested = refl; older-replies = refl; newer-replies = refl }
+computed same-delimiter = record { tested = refl; older-replies = refl; newer-replies = refl }
+computed kept-starts = record { tested = refl; older-replies = refl; newer-replies = refl }
+computed kept-ends = record { tested = refl; older-replies = refl; newer-replies = refl }
+computed last-end = record { tested = refl; older-replies = refl; newer-replies = refl }
+computed kept-counts = record { tested = refl; older-replies = refl; newer-replies = refl }
+computed kept-times = record { tested = refl; older-replies = refl; newer-replies = refl }
+computed kept-rates = record { tested = refl; older-replies = refl; newer-replies = refl }
+computed further-counts = record { tested = refl; older-replies = refl; newer-replies = refl }
+computed no-step-back = record { tested = refl; older-replies = refl; newer-replies = refl }
+
+pub needed : (h : Hypothesis) → Needed h (pair h)
+unfolding tests
+needed h =
+    let r = pair h in
+    let c = computed h in
+    let t = c .tested in
+    record {
+      accepted-older = passes-accepted (r .older) (all-of-at _ 0 t);
+      accepted-newer = passes-accepted (r .newer) (all-of-at _ 1 t);
+      others = λ k n. meets-says (r .older) (r .newer) k (other-meets k h _ (each-at (λ j. isSame j h || meets (r .older) (r .newer) j) (all-of-at _ 2 t) k) n);
+      older-replies = c .older-replies;
+      newer-replies = c .newer-replies;
+      fails = λ d. not-both (eq-eqb _ _ (ap code (same-reply (r .older) (r .newer) d (r .asked) (all-of-at _ 3 t) (all-of-at _ 4 t)))) (not-true _ (all-of-at _ 5 t));
+    }

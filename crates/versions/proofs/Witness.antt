@@ -1,0 +1,46 @@
+-- Demand 3 is not empty, and its exception is needed.
+use Prim.Native.Nat.{ℕ}
+use native.Mathlib.Omega.{arith}
+use mathlib.Core.Path.{_≡_, refl, ap}
+use mathlib.Core.Bool.{true}
+use Rattle.base.proofs.Tests.{not-both}
+use Rattle.rules.specs.Answer.{Answer, answer, refused}
+use Rattle.versions.specs.Versions.{Table, Hypothesis, Says, Printed, Demand3}
+use Rattle.versions.specs.Needed.{nine, fourteen, ExceptionNeeded, cutA, tableA, Witness}
+use Rattle.versions.proofs.Demand3.{demand-3}
+use Rattle.versions.proofs.Meets.{meets, meets-says, passes-accepted, each, each-at}
+use Rattle.versions.proofs.Computing.{computing}
+
+-- tables that are written out, by their tests
+says-all : (older newer : Table) → each (meets older newer) ≡ true → (h : Hypothesis) → Says older newer h
+says-all older newer t h = meets-says older newer h (each-at (meets older newer) t h)
+
+pub witness : Witness
+unfolding computing
+witness =
+    record {
+      accepted-older = passes-accepted cutA refl;
+      accepted-newer = passes-accepted tableA refl;
+      says = says-all cutA tableA refl;
+      exception = record { total = refl; kept-end = refl; added = omega arith };
+      older-prints = refl;
+      newer-prints = refl;
+    }
+
+pub demand-3-of-A : Demand3 cutA tableA
+demand-3-of-A = demand-3 cutA tableA (witness .accepted-older) (witness .accepted-newer) (witness .says)
+
+returnedBy : Answer Printed → ℕ
+returnedBy (answer p) = p .returned
+returnedBy (refused k) = 0
+
+pub exception-needed : ExceptionNeeded
+unfolding computing returnedBy
+exception-needed =
+    record {
+      accepted-older = passes-accepted nine refl;
+      accepted-newer = passes-accepted fourteen refl;
+      says = says-all nine fourteen refl;
+      no-same-answer = λ h. let e : _≡_ {A = ℕ} 3 4 = ap returnedBy (h .same _ refl) in omega arith;
+      no-such-refusal = λ h. not-both (h .refuses _ 16 refl refl) refl;
+    }
