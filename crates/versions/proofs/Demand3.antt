@@ -11,11 +11,11 @@ use borrow.Author.Tests.{leb-true, le-leb}
 use Rattle.base.proofs.Tests.{by-test}
 use Rattle.rules.specs.Answer.{Answer, answer, refused, unless, andThen}
 use Rattle.rules.specs.Layout.{layoutOk}
-use Rattle.rules.specs.Partitions.{partitionsOk, totalOf}
+use Rattle.rules.specs.Partitions.{partitionsOk, endOf, totalOf}
 use Rattle.rules.specs.Stamp.{readStamp, slashIn}
 use Rattle.rules.specs.Print.{fitting, stampPrint, printStamp, lengthPrinted, bufferAfter}
 use Rattle.rules.specs.Time.{accepted, timeOf, countAt}
-use Rattle.versions.specs.Versions.{Table, Accepted, Hypothesis, Says, oneOf, Agree, readBy, printBy, timeBy, countBy, Printed, shown, printed, Exception, Apart, olderPrint, newerPrint, Demand3}
+use Rattle.versions.specs.Versions.{Table, Accepted, lastIn, Hypothesis, Says, oneOf, Agree, readBy, printBy, timeBy, countBy, Printed, shown, printed, Exception, Apart, olderPrint, newerPrint, Demand3}
 use Rattle.versions.proofs.Agreement.{agree-same, agree-refused, agree-unless}
 use Rattle.versions.proofs.Layouts.{OneLayout}
 use Rattle.versions.proofs.Partitions.{KeptPartitions, total-up}
@@ -78,7 +78,7 @@ module _ (older newer : Table) (was : Accepted older) (is : Accepted newer) (say
   unfolding unless
   print-same e room b outside =
       rw (print-is older was, print-is newer is, le-leb e (totalOf (older .partitions)) b, le-leb e (totalOf (newer .partitions)) (omega (arith, total-up _ _ rows)))
-      (ap (fitting room) (stamp-same _ _ _ _ one rows e b (λ t d m. outside (record { total = t; kept-end = d; added = m }))))
+      (ap (fitting room) (stamp-same _ _ _ _ one rows e b (λ t d m. outside (omega arith))))
 
   prints-agree : (e : ℕ) (b c : List ℕ) → length b ≡ length c → (Exception older newer e → ⊥) → Agree (12 ∷ []) (printed older e b) (printed newer e c)
   unfolding only-print oneOf unless andThen
@@ -88,18 +88,31 @@ module _ (older newer : Table) (was : Accepted older) (is : Accepted newer) (say
       (λ n. agree-refused 12 (rw (shown-print _ b, print-is older was, n)) refl)
 
   module _ (e : ℕ) (x : Exception older newer e) where
+    total : e ≡ totalOf (older .partitions)
+    total = omega arith
+
+    kept-end : endOf (newer .partitions) (lastIn older) ≡ endOf (older .partitions) (lastIn older)
+    kept-end = omega arith
+
     older-prints : (room : ℕ) → printBy older e room ≡ fitting room (olderPrint older)
     unfolding stampPrint unless
     older-prints room =
-        rw (print-is older was, le-leb e (totalOf (older .partitions)) (omega (arith, x .total)), older-last _ _ rows e (x .total), older-end _ _ rows e (x .total))
+        rw (print-is older was, le-leb e (totalOf (older .partitions)) (omega (arith, total)), older-last _ _ rows e total, older-end _ _ rows e total)
 
     newer-prints : (room : ℕ) → printBy newer e room ≡ fitting room (newerPrint older newer)
     unfolding stampPrint unless
     newer-prints room =
-        rw (print-is newer is, le-leb e (totalOf (newer .partitions)) (omega (arith, x .total, total-up _ _ rows)), newer-next _ _ rows e (x .total) (x .kept-end) (x .added), newer-start _ _ rows e (x .total) (x .kept-end))
+        rw (print-is newer is, le-leb e (totalOf (newer .partitions)) (omega (arith, total, total-up _ _ rows)), newer-next _ _ rows e total kept-end (omega arith), newer-start _ _ rows e total kept-end)
 
     apart : Apart older newer e
     apart = record { older-prints = older-prints; newer-prints = newer-prints; differ = numbers-differ _ _ _ }
 
-  pub demand-3 : Demand3 older newer
-  demand-3 = record { reading = reads; printing = prints-agree; exception = apart; time-of = times-agree; count-at = counts-agree }
+pub demand-3 : (older newer : Table) → Accepted older → Accepted newer → ((h : Hypothesis) → Says older newer h) → Demand3 older newer
+demand-3 older newer was is says =
+    record {
+      reading = reads older newer was is says;
+      printing = prints-agree older newer was is says;
+      exception = apart older newer was is says;
+      time-of = times-agree older newer was is says;
+      count-at = counts-agree older newer was is says;
+    }

@@ -4,7 +4,6 @@ use native.Mathlib.Omega.{arith}
 use native.Mathlib.Nat.{le-trans}
 use mathlib.Core.Path.{_≡_, _∙_}
 use mathlib.Core.Bool.{false}
-use lib.Dec.{ltb}
 use lib.IntN.{pos}
 use lib.ListN.{length, take, length-take}
 use lib.Seq.{getD-take}
@@ -59,13 +58,16 @@ module _ (older newer : Table) (was : Accepted older) (is : Accepted newer) (say
         more = begins-longer (older .partitions .starts) (newer .partitions .starts) (says kept-starts);
         starts = λ i b. begins-at (older .partitions .starts) (newer .partitions .starts) i 0 (says kept-starts) b;
         ends = inner-end;
-        last-end = says last-end;
+        last-end = omega (arith, says last-end);
         older-rows = λ i b. old-partitions .each i b .ordered;
         newer-rows = λ i b. new-partitions .each i b .ordered;
       }
 
   pub unit : 1 ≤ unitOf (newer .layout)
   unit = unit-positive (newer .layout) new-layout
+
+  further : (i : ℕ) → segmentsIn (older .segments) ≤ i → i < segmentsIn (newer .segments) → totalOf (older .partitions) < countOf (newer .segments) i
+  further i b c = let above = all-after _ (newer .segments .counts) _ i (says further-counts) b c in omega (arith, ltb-true)
 
   forward : (i : ℕ) → i + 1 < segmentsIn (newer .segments)
       → ltZ (timeAt (newer .segments) (i + 1)) (lineAt (newer .layout) (newer .segments) i (countOf (newer .segments) (i + 1))) ≡ false
@@ -82,7 +84,7 @@ module _ (older newer : Table) (was : Accepted older) (is : Accepted newer) (say
         counts = λ i b. begins-at (older .segments .counts) (newer .segments .counts) i 0 (says kept-counts) b;
         times = λ i b. begins-at (older .segments .times) (newer .segments .times) i (pos 0) (says kept-times) (rw (old-segments .times-length) b);
         rates = λ i b. begins-at (older .segments .rates) (newer .segments .rates) i 0 (says kept-rates) (rw (old-segments .rates-length) b);
-        further = λ i b c. ltb-true _ _ (all-after (λ n. ltb (totalOf (older .partitions)) n) (newer .segments .counts) (segmentsIn (older .segments)) i (says further-counts) b c);
+        further = further;
         grow = λ i b. new-segments .grow i b .times;
         positive = λ i b. le-trans unit (new-segments .each i b .rate-low);
         forward = forward;

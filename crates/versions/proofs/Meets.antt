@@ -12,7 +12,8 @@ use Rattle.base.proofs.Tests.{and-first, and-second, not-both, all-of-head, all
 use Rattle.rules.specs.Layout.{moduliOf, offsetsOf, layoutOk}
 use Rattle.rules.specs.Partitions.{endOf, totalOf, partitionsOk}
 use Rattle.rules.specs.Segments.{segmentsIn, stepsBack, segmentsOk}
-use Rattle.versions.specs.Versions.{Table, Accepted, lastIn, Hypothesis, same-n, same-moduli, same-offsets, same-delimiter, kept-starts, kept-ends, last-end, kept-counts, kept-times, kept-rates, further-counts, no-step-back, Says}
+use Rattle.versions.specs.Versions.{Table, Accepted, lastIn, Hypothesis, same-n, same-moduli, same-offsets, same-delimiter, kept-starts, kept-ends, last-end, kept-counts, kept-times, kept-rates, further-counts, no-step-back, Says, Demand3}
+use Rattle.versions.proofs.Demand3.{demand-3}
 
 unfoldable pub eqZ : ℤ → ℤ → Bool
 eqZ (pos a) (pos b) = eqb a b
@@ -126,3 +127,10 @@ each-at f t kept-times = all-of-at _ 8 t
 each-at f t kept-rates = all-of-at _ 9 t
 each-at f t further-counts = all-of-at _ 10 t
 each-at f t no-step-back = all-of-at _ 11 t
+
+pub meets-all : (older newer : Table) → each (meets older newer) ≡ true → (h : Hypothesis) → Says older newer h
+meets-all older newer t h = meets-says older newer h (each-at (meets older newer) t h)
+
+-- demand 3 of two tables that are written out, by their tests
+pub demand-3-by-tests : (older newer : Table) → passes older ≡ true → passes newer ≡ true → each (meets older newer) ≡ true → Demand3 older newer
+demand-3-by-tests older newer was is t = demand-3 older newer (passes-accepted older was) (passes-accepted newer is) (meets-all older newer t)

@@ -5,15 +5,16 @@ use mathlib.Core.Bool.{Bool, true, false, not, _&&_, _||_}
 use mathlib.Core.List.{List, [], _∷_}
 use lib.Dec.{eqb, ltb}
 use lib.IntN.{pos, negsuc}
-use lib.ListN.{replicate}
+use lib.ListN.{replicate, getD}
 use borrow.Author.Tests.{eq-eqb, lt-ltb, not-true}
 use Rattle.base.specs.Scans.{allOf}
 use Rattle.base.proofs.Tests.{and-both, not-both}
 use Rattle.rules.specs.Answer.{Answer, answer, refused}
 use Rattle.rules.specs.Partitions.{partitionsIn, totalOf}
-use Rattle.versions.specs.Versions.{Table, Hypothesis, same-n, same-moduli, same-offsets, same-delimiter, kept-starts, kept-ends, last-end, kept-counts, kept-times, kept-rates, further-counts, no-step-back, Hypothesis-discrete, Agree, Exception, Demand3}
+use Rattle.versions.specs.Versions.{Table, Hypothesis, same-n, same-moduli, same-offsets, same-delimiter, kept-starts, kept-ends, last-end, kept-counts, kept-times, kept-rates, further-counts, no-step-back, Hypothesis-discrete, Accepted, Says, Agree, Exception, Demand3}
 use Rattle.versions.specs.Needed.{Question, stamp, print, time, count, Reply, number, text, instant, ask, Row, pair, Needed}
 use Rattle.versions.proofs.Computing.{computing}
+use Rattle.versions.proofs.Demand3.{demand-3}
 use Rattle.versions.proofs.Meets.{meets, meets-says, passes, passes-accepted, each, each-at, all-of-at}
 
 -- a number by which two replies are told apart
@@ -104,17 +105,48 @@ computed kept-rates = record { tested = refl; older-replies = refl; newer-replie
 computed further-counts = record { tested = refl; older-replies = refl; newer-replies = refl }
 computed no-step-back = record { tested = refl; older-replies = refl; newer-replies = refl }
 
-pub needed : (h : Hypothesis) → Needed h (pair h)
-unfolding tests
-needed h =
-    let r = pair h in
-    let c = computed h in
-    let t = c .tested in
-    record {
-      accepted-older = passes-accepted (r .older) (all-of-at _ 0 t);
-      accepted-newer = passes-accepted (r .newer) (all-of-at _ 1 t);
-      others = λ k n. meets-says (r .older) (r .newer) k (other-meets k h _ (each-at (λ j. isSame j h || meets (r .older) (r .newer) j) (all-of-at _ 2 t) k) n);
-      older-replies = c .older-replies;
-      newer-replies = c .newer-replies;
-      fails = λ d. not-both (eq-eqb _ _ (ap code (same-reply (r .older) (r .newer) d (r .asked) (all-of-at _ 3 t) (all-of-at _ 4 t)))) (not-true _ (all-of-at _ 5 t));
-    }
+-- a hypothesis and all the others
+all-says : (older newer : Table) (h : Hypothesis) → ((k : Hypothesis) → (k ≡ h → ⊥) → Says older newer k) → Says older newer h → (k : Hypothesis) → Says older newer k
+all-says older newer h others s k = go (Hypothesis-discrete k h)
+  where
+    go : Dec (k ≡ h) → Says older newer k
+    go (yes e) = rw e s
+    go (no n) = others k n
+
+module _ (h : Hypothesis) where
+  abbrev older : Table
+  older = pair h .older
+
+  abbrev newer : Table
+  newer = pair h .newer
+
+  tested : (i : ℕ) → getD (tests h (pair h)) i true ≡ true
+  tested i = all-of-at _ i (computed h .tested)
+
+  accepted-older : Accepted older
+  unfolding tests
+  accepted-older = passes-accepted older (tested 0)
+
+  accepted-newer : Accepted newer
+  unfolding tests
+  accepted-newer = passes-accepted newer (tested 1)
+
+  others : (k : Hypothesis) → (k ≡ h → ⊥) → Says older newer k
+  unfolding tests
+  others k n = meets-says older newer k (other-meets k h _ (each-at (λ j. isSame j h || meets older newer j) (tested 2) k) n)
+
+  fails : Demand3 older newer → ⊥
+  unfolding tests
+  fails d = not-both (eq-eqb _ _ (ap code (same-reply older newer d (pair h .asked) (tested 3) (tested 4)))) (not-true _ (tested 5))
+
+  pub needed : Needed h (pair h)
+  needed =
+      record {
+        accepted-older = accepted-older;
+        accepted-newer = accepted-newer;
+        others = others;
+        broken = λ s. fails (demand-3 older newer accepted-older accepted-newer (all-says older newer h others s));
+        older-replies = computed h .older-replies;
+        newer-replies = computed h .newer-replies;
+        fails = fails;
+      }

@@ -2,18 +2,12 @@
 use Prim.Native.Nat.{ℕ}
 use native.Mathlib.Omega.{arith}
 use mathlib.Core.Path.{_≡_, refl, ap}
-use mathlib.Core.Bool.{true}
 use Rattle.base.proofs.Tests.{not-both}
 use Rattle.rules.specs.Answer.{Answer, answer, refused}
-use Rattle.versions.specs.Versions.{Table, Hypothesis, Says, Printed, Demand3}
+use Rattle.versions.specs.Versions.{Printed, Demand3}
 use Rattle.versions.specs.Needed.{nine, fourteen, ExceptionNeeded, cutA, tableA, Witness}
-use Rattle.versions.proofs.Demand3.{demand-3}
-use Rattle.versions.proofs.Meets.{meets, meets-says, passes-accepted, each, each-at}
+use Rattle.versions.proofs.Meets.{passes-accepted, meets-all, demand-3-by-tests}
 use Rattle.versions.proofs.Computing.{computing}
-
--- tables that are written out, by their tests
-says-all : (older newer : Table) → each (meets older newer) ≡ true → (h : Hypothesis) → Says older newer h
-says-all older newer t h = meets-says older newer h (each-at (meets older newer) t h)
 
 pub witness : Witness
 unfolding computing
@@ -21,14 +15,15 @@ witness =
     record {
       accepted-older = passes-accepted cutA refl;
       accepted-newer = passes-accepted tableA refl;
-      says = says-all cutA tableA refl;
+      says = meets-all cutA tableA refl;
       exception = record { total = refl; kept-end = refl; added = omega arith };
       older-prints = refl;
       newer-prints = refl;
     }
 
 pub demand-3-of-A : Demand3 cutA tableA
-demand-3-of-A = demand-3 cutA tableA (witness .accepted-older) (witness .accepted-newer) (witness .says)
+unfolding computing
+demand-3-of-A = demand-3-by-tests cutA tableA refl refl refl
 
 returnedBy : Answer Printed → ℕ
 returnedBy (answer p) = p .returned
@@ -40,7 +35,7 @@ exception-needed =
     record {
       accepted-older = passes-accepted nine refl;
       accepted-newer = passes-accepted fourteen refl;
-      says = says-all nine fourteen refl;
+      says = meets-all nine fourteen refl;
       no-same-answer = λ h. let e : _≡_ {A = ℕ} 3 4 = ap returnedBy (h .same _ refl) in omega arith;
       no-such-refusal = λ h. not-both (h .refuses _ 16 refl refl) refl;
     }

@@ -98,11 +98,12 @@ pair further-counts =
 pair no-step-back =
     row (table small one flat) (table small (partitions (0 ∷ 0 ∷ []) (1 ∷ 1 ∷ [])) (segments (0 ∷ 2 ∷ []) (pos 0 ∷ pos 1 ∷ []) (1_000 ∷ 1_000 ∷ []))) (count (pos 1)) (counts 1) (counts 2)
 
--- r shows that the hypothesis h is needed: both tables are accepted and meet every other one, and the claim is false of them.
+-- r shows that the hypothesis h is needed: both tables are accepted and meet every other one but not h, and the claim is false of them.
 pub record Needed (h : Hypothesis) (r : Row) : Type 0 where
   pub accepted-older : Accepted (r .older)
   pub accepted-newer : Accepted (r .newer)
   pub others : (k : Hypothesis) → (k ≡ h → ⊥) → Says (r .older) (r .newer) k
+  pub broken : Says (r .older) (r .newer) h → ⊥
   pub older-replies : ask (r .older) (r .asked) ≡ r .older-says
   pub newer-replies : ask (r .newer) (r .asked) ≡ r .newer-says
   pub fails : Demand3 (r .older) (r .newer) → ⊥
