@@ -2,7 +2,6 @@
 use Prim.Native.Nat.{ℕ, _≤_, _<_}
 use native.Mathlib.Omega.{arith}
 use mathlib.Core.Path.{_≡_, refl, sym}
-use mathlib.Core.List.{[], _∷_}
 use mathlib.Core.Option.{Option, none, some}
 use lib.Dec.{leb}
 use borrow.Author.Tests.{leb-true, le-leb, lt-leb}
@@ -13,7 +12,7 @@ use Rattle.rules.specs.Answer.{unless}
 use Rattle.rules.specs.Partitions.{Partitions, totalOf}
 use Rattle.rules.specs.Segments.{Segments, segmentsIn, countOf, lineAt}
 use Rattle.rules.specs.Time.{segmentOf, timeIn}
-use Rattle.versions.specs.Versions.{Agree, oneOf}
+use Rattle.versions.specs.Versions.{Agree, oneOf, countRefusals}
 use Rattle.versions.proofs.Agreement.{agree-same, agree-refused}
 use Rattle.versions.proofs.Lists.{last-more}
 use Rattle.versions.proofs.Layouts.{OneLayout, unit-same}
@@ -38,7 +37,7 @@ module _ (l k : Layout) (p q : Partitions) (g h : Segments) (one : OneLayout l k
   time-same e (some i) s = rw (line-same i e (last-found (λ i. leb (countOf g i) e) (segmentsIn g) i s .below))
 
   pub time-agrees : (e : ℕ)
-      → Agree (12 ∷ []) (unless 12 (leb e (totalOf p)) (timeIn l g e (segmentOf g e))) (unless 12 (leb e (totalOf q)) (timeIn k h e (segmentOf h e)))
+      → Agree countRefusals (unless 12 (leb e (totalOf p)) (timeIn l g e (segmentOf g e))) (unless 12 (leb e (totalOf q)) (timeIn k h e (segmentOf h e)))
   unfolding unless oneOf
   time-agrees e =
       by-test (leb e (totalOf p))

@@ -2,7 +2,7 @@
 use Prim.Native.Nat.{ℕ, _≤_}
 use native.Mathlib.Omega.{arith}
 use mathlib.Core.Path.{_≡_, refl, ap}
-use mathlib.Core.List.{List, [], _∷_}
+use mathlib.Core.List.{List}
 use lib.Dec.{leb}
 use lib.IntN.{ℤ}
 use lib.ListN.{length, drop}
@@ -15,7 +15,7 @@ use Rattle.rules.specs.Partitions.{partitionsOk, endOf, totalOf}
 use Rattle.rules.specs.Stamp.{readStamp, slashIn}
 use Rattle.rules.specs.Print.{fitting, stampPrint, printStamp, lengthPrinted, bufferAfter}
 use Rattle.rules.specs.Time.{accepted, timeOf, countAt}
-use Rattle.versions.specs.Versions.{Table, Accepted, lastIn, Hypothesis, Says, oneOf, Agree, readBy, printBy, timeBy, countBy, Printed, shown, printed, Exception, Apart, olderPrint, newerPrint, Demand3}
+use Rattle.versions.specs.Versions.{Table, Accepted, lastIn, Hypothesis, Says, oneOf, Agree, stampRefusals, countRefusals, timeRefusals, readBy, printBy, timeBy, countBy, Printed, shown, printed, Exception, Apart, olderPrint, newerPrint, Demand3}
 use Rattle.versions.proofs.Agreement.{agree-same, agree-refused, agree-unless}
 use Rattle.versions.proofs.Layouts.{OneLayout}
 use Rattle.versions.proofs.Partitions.{KeptPartitions, total-up}
@@ -46,7 +46,7 @@ only-print r = andThen r (λ s. answer (record { returned = length s; bytes = s 
 
 shown-print : (r : Answer (List ℕ)) (b : List ℕ) → shown r b ≡ only-print r
 unfolding shown only-print andThen lengthPrinted bufferAfter
-shown-print (answer s) b = rw (take-append-seam s (drop (length s) b))
+shown-print (answer s) b = ap (λ f. answer (record { returned = length s; bytes = f })) (take-append-seam s (drop (length s) b))
 shown-print (refused k) b = refl
 
 module _ (older newer : Table) (was : Accepted older) (is : Accepted newer) (says : (h : Hypothesis) → Says older newer h) where
@@ -56,19 +56,19 @@ module _ (older newer : Table) (was : Accepted older) (is : Accepted newer) (say
   rows : KeptPartitions (older .partitions) (newer .partitions)
   rows = kept-partitions older newer was is says
 
-  reads : (s : List ℕ) → Agree (10 ∷ 11 ∷ []) (readBy older s) (readBy newer s)
+  reads : (s : List ℕ) → Agree stampRefusals (readBy older s) (readBy newer s)
   unfolding readStamp
   reads s =
       rw (through-two older was, through-two newer is)
       (agree-unless 4 _ (stamp-agrees _ _ _ _ one rows s (slashIn s)))
 
-  times-agree : (e : ℕ) → Agree (12 ∷ []) (timeBy older e) (timeBy newer e)
+  times-agree : (e : ℕ) → Agree countRefusals (timeBy older e) (timeBy newer e)
   unfolding timeOf
   times-agree e =
       rw (through-three older was, through-three newer is)
       (time-agrees _ _ _ _ _ _ one rows (kept-segments older newer was is says) e)
 
-  counts-agree : (t : ℤ) → Agree (14 ∷ []) (countBy older t) (countBy newer t)
+  counts-agree : (t : ℤ) → Agree timeRefusals (countBy older t) (countBy newer t)
   unfolding countAt
   counts-agree t =
       rw (through-three older was, through-three newer is)
@@ -80,7 +80,7 @@ module _ (older newer : Table) (was : Accepted older) (is : Accepted newer) (say
       rw (print-is older was, print-is newer is, le-leb e (totalOf (older .partitions)) b, le-leb e (totalOf (newer .partitions)) (omega (arith, total-up _ _ rows)))
       (ap (fitting room) (stamp-same _ _ _ _ one rows e b (λ t d m. outside (omega arith))))
 
-  prints-agree : (e : ℕ) (b c : List ℕ) → length b ≡ length c → (Exception older newer e → ⊥) → Agree (12 ∷ []) (printed older e b) (printed newer e c)
+  prints-agree : (e : ℕ) (b c : List ℕ) → length b ≡ length c → (Exception older newer e → ⊥) → Agree countRefusals (printed older e b) (printed newer e c)
   unfolding only-print oneOf unless andThen
   prints-agree e b c same outside =
       by-test (leb e (totalOf (older .partitions)))

@@ -12,7 +12,7 @@ use Rattle.base.proofs.Tests.{and-both, not-both}
 use Rattle.rules.specs.Answer.{Answer, answer, refused}
 use Rattle.rules.specs.Partitions.{partitionsIn, totalOf}
 use Rattle.versions.specs.Versions.{Table, Hypothesis, same-n, same-moduli, same-offsets, same-delimiter, kept-starts, kept-ends, last-end, kept-counts, kept-times, kept-rates, further-counts, no-step-back, Hypothesis-discrete, Accepted, Says, Agree, Exception, Demand3}
-use Rattle.versions.specs.Needed.{Question, stamp, print, time, count, Reply, number, text, instant, ask, Row, pair, Needed}
+use Rattle.versions.specs.Needed.{Question, stamp, print, time, count, Reply, counted, shown, timed, ask, Row, pair, Needed}
 use Rattle.versions.proofs.Computing.{computing}
 use Rattle.versions.proofs.Demand3.{demand-3}
 use Rattle.versions.proofs.Meets.{meets, meets-says, passes, passes-accepted, each, each-at, all-of-at}
@@ -23,13 +23,13 @@ byteCode [] = 0
 byteCode (b ∷ s) = b + 256 * byteCode s
 
 code : Reply → ℕ
-code (number (answer n)) = n
-code (number (refused k)) = k
-code (text (answer p)) = byteCode (p .bytes)
-code (text (refused k)) = k
-code (instant (answer (pos n))) = n
-code (instant (answer (negsuc n))) = n
-code (instant (refused k)) = k
+code (counted (answer n)) = n
+code (counted (refused k)) = k
+code (shown (answer p)) = byteCode (p .bytes)
+code (shown (refused k)) = k
+code (timed (answer (pos n))) = n
+code (timed (answer (negsuc n))) = n
+code (timed (refused k)) = k
 
 isAnswer : {A : Type 0} → Answer A → Bool
 isAnswer (answer a) = true
@@ -37,9 +37,9 @@ isAnswer (refused k) = false
 
 answered : Reply → Bool
 unfolding isAnswer
-answered (number a) = isAnswer a
-answered (text a) = isAnswer a
-answered (instant a) = isAnswer a
+answered (counted a) = isAnswer a
+answered (shown a) = isAnswer a
+answered (timed a) = isAnswer a
 
 same-answer : {A : Type 0} {ks : List ℕ} (a b : Answer A) → Agree ks a b → isAnswer a ≡ true → b ≡ a
 unfolding isAnswer
@@ -59,10 +59,10 @@ module _ (older newer : Table) where
 
   same-reply : Demand3 older newer → (q : Question) → outside q ≡ true → answered (ask older q) ≡ true → ask newer q ≡ ask older q
   unfolding ask answered
-  same-reply d (stamp s) o t = ap number (same-answer _ _ (d .reading _) t)
-  same-reply d (print e) o t = ap text (same-answer _ _ (d .printing e (replicate 96 0) (replicate 96 0) refl (not-exception e o)) t)
-  same-reply d (time e) o t = ap instant (same-answer _ _ (d .time-of e) t)
-  same-reply d (count at) o t = ap number (same-answer _ _ (d .count-at at) t)
+  same-reply d (stamp s) o t = ap counted (same-answer _ _ (d .reading _) t)
+  same-reply d (print e) o t = ap shown (same-answer _ _ (d .printing e (replicate 96 0) (replicate 96 0) refl (not-exception e o)) t)
+  same-reply d (time e) o t = ap timed (same-answer _ _ (d .time-of e) t)
+  same-reply d (count at) o t = ap counted (same-answer _ _ (d .count-at at) t)
 
 isSame : Hypothesis → Hypothesis → Bool
 isSame k h = elim (Hypothesis-discrete k h) [ yes e ↦ true | no n ↦ false ]

@@ -3,7 +3,7 @@ use Prim.Native.Nat.{ℕ, _+_, _-_, _≤_, _<_}
 use native.Mathlib.Omega.{arith}
 use mathlib.Core.Path.{_≡_, refl, _∙_}
 use mathlib.Core.Bool.{true, false, _&&_}
-use mathlib.Core.List.{List, [], _∷_}
+use mathlib.Core.List.{List}
 use mathlib.Core.Option.{Option, none, some}
 use mathlib.Core.Logic.{⊎-elim}
 use lib.Dec.{leb}
@@ -14,7 +14,7 @@ use Rattle.rules.specs.declared.Layout.{Layout}
 use Rattle.rules.specs.Answer.{refused, unless}
 use Rattle.rules.specs.Partitions.{Partitions, partitionsIn, startOf, endOf}
 use Rattle.rules.specs.Stamp.{holds, encodedIn, encodeNamed, encodeFound, encodeFirst, stampAt}
-use Rattle.versions.specs.Versions.{Agree, oneOf}
+use Rattle.versions.specs.Versions.{Agree, oneOf, stampRefusals}
 use Rattle.versions.proofs.Agreement.{agree-same, agree-refused, agree-unless, agree-then}
 use Rattle.versions.proofs.Layouts.{OneLayout, fields-same}
 use Rattle.versions.proofs.Partitions.{KeptPartitions, end-up, before-same}
@@ -43,7 +43,7 @@ module _ (p q : Partitions) (kept : KeptPartitions p q) (c : ℕ) where
       let b : n - 1 < partitionsIn p = omega arith in
       rw (y, z, le-leb 1 n low, le-leb n (partitionsIn q) (omega arith), holds-up (n - 1) b z, encoded-same (n - 1) b)
 
-  pub named-agrees : (n : ℕ) → Agree (10 ∷ 11 ∷ []) (encodeNamed p n c) (encodeNamed q n c)
+  pub named-agrees : (n : ℕ) → Agree stampRefusals (encodeNamed p n c) (encodeNamed q n c)
   unfolding oneOf
   named-agrees n =
       by-test (leb 1 n && leb n (partitionsIn p))
@@ -65,7 +65,7 @@ module _ (p q : Partitions) (kept : KeptPartitions p q) (c : ℕ) where
         before = λ j d. holds-same j (omega arith) ∙ w .before j d;
       }
 
-  pub first-agrees : Agree (10 ∷ 11 ∷ []) (encodeFirst p c) (encodeFirst q c)
+  pub first-agrees : Agree stampRefusals (encodeFirst p c) (encodeFirst q c)
   unfolding encodeFirst encodeFound oneOf
   first-agrees =
       ⊎-elim
@@ -74,7 +74,7 @@ module _ (p q : Partitions) (kept : KeptPartitions p q) (c : ℕ) where
       (first-or (holds p c) (partitionsIn p))
 
 module _ (l k : Layout) (p q : Partitions) (one : OneLayout l k) (kept : KeptPartitions p q) (s : List ℕ) where
-  pub stamp-agrees : (x : Option ℕ) → Agree (10 ∷ 11 ∷ []) (stampAt l p s x) (stampAt k q s x)
+  pub stamp-agrees : (x : Option ℕ) → Agree stampRefusals (stampAt l p s x) (stampAt k q s x)
   unfolding stampAt
   stamp-agrees none = agree-unless 5 _ (rw (fields-same l k one) (agree-then _ (first-agrees p q kept)))
   stamp-agrees (some i) = agree-unless 5 _ (rw (fields-same l k one) (agree-then _ (λ c. named-agrees p q kept c _)))

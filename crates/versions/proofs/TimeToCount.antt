@@ -4,7 +4,6 @@ use native.Mathlib.Omega.{arith}
 use native.Mathlib.Nat.{mul-comm, le-div-iff-mul-le, div-lt-iff-lt-mul, add-zero}
 use mathlib.Core.Path.{_≡_, refl, sym, _∙_}
 use mathlib.Core.Bool.{Bool, true, false}
-use mathlib.Core.List.{[], _∷_}
 use mathlib.Core.Option.{some}
 use mathlib.Core.Logic.{⊎-elim}
 use lib.Dec.{leb}
@@ -20,7 +19,7 @@ use Rattle.rules.specs.Answer.{refused, unless}
 use Rattle.rules.specs.Partitions.{Partitions, totalOf}
 use Rattle.rules.specs.Segments.{Segments, segmentsIn, countOf, timeAt, rateOf, unitOf, hasNext, lineAt}
 use Rattle.rules.specs.Time.{segmentAt, lineCount, stoppedAt, countIn}
-use Rattle.versions.specs.Versions.{Agree, oneOf}
+use Rattle.versions.specs.Versions.{Agree, oneOf, timeRefusals}
 use Rattle.versions.proofs.Agreement.{agree-same, agree-refused}
 use Rattle.versions.proofs.Lists.{last-more}
 use Rattle.versions.proofs.Signed.{after-later, not-later, later-elapsed}
@@ -104,7 +103,7 @@ module _ (l k : Layout) (p q : Partitions) (g h : Segments) (one : OneLayout l k
       let same = line-count-same i (omega arith) in
       stop-free h i (lineCount k h i t) (λ b. omega (arith, kept .further (i + 1) (omega arith) b)) ∙ same ∙ sym (free-last i e)
 
-  agree-at : (i : ℕ) → stoppedAt h i (lineCount k h i t) ≡ stoppedAt g i (lineCount l g i t) → Agree (14 ∷ []) (countIn l p g t (some i)) (countIn k q h t (some i))
+  agree-at : (i : ℕ) → stoppedAt h i (lineCount k h i t) ≡ stoppedAt g i (lineCount l g i t) → Agree timeRefusals (countIn l p g t (some i)) (countIn k q h t (some i))
   unfolding countIn unless oneOf
   agree-at i e =
       by-test (leb (stoppedAt g i (lineCount l g i t)) (totalOf p))
@@ -120,7 +119,7 @@ module _ (l k : Layout) (p q : Partitions) (g h : Segments) (one : OneLayout l k
   unfolding countIn unless
   refused-last i e f = rw (free-last i e, f)
 
-  agree-found : (i : ℕ) → Last (begun g t) (segmentsIn g) i → Agree (14 ∷ []) (countIn l p g t (some i)) (countIn k q h t (segmentAt h t))
+  agree-found : (i : ℕ) → Last (begun g t) (segmentsIn g) i → Agree timeRefusals (countIn l p g t (some i)) (countIn k q h t (segmentAt h t))
   unfolding oneOf
   agree-found i w =
       by-test (hasNext g i)
@@ -136,7 +135,7 @@ module _ (l k : Layout) (p q : Partitions) (g h : Segments) (one : OneLayout l k
   unfolding countIn segmentAt
   none-same f = rw (segment-same (none-after-kept 0 (omega arith) (f 0 (omega arith))), last-none (begun g t) (segmentsIn g) f)
 
-  pub count-agrees : Agree (14 ∷ []) (countIn l p g t (segmentAt g t)) (countIn k q h t (segmentAt h t))
+  pub count-agrees : Agree timeRefusals (countIn l p g t (segmentAt g t)) (countIn k q h t (segmentAt h t))
   unfolding segmentAt
   count-agrees =
       ⊎-elim

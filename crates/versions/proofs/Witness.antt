@@ -36,6 +36,10 @@ exception-needed =
       accepted-older = passes-accepted nine refl;
       accepted-newer = passes-accepted fourteen refl;
       says = meets-all nine fourteen refl;
-      no-same-answer = λ h. let e : _≡_ {A = ℕ} 3 4 = ap returnedBy (h .same _ refl) in omega arith;
-      no-such-refusal = λ h. not-both (h .refuses _ 16 refl refl) refl;
+      older-into-four = refl;
+      newer-into-four = refl;
+      not-the-same = λ h. let e : _≡_ {A = ℕ} 3 4 = ap returnedBy (h .same _ refl) in omega arith;
+      older-into-three = refl;
+      newer-into-three = refl;
+      not-refused-12 = λ h. not-both (h .refuses _ 16 refl refl) refl;
     }

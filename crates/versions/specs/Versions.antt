@@ -37,7 +37,7 @@ Begins older newer = take (length older) newer ≡ older
 abbrev pub lastIn : Table → ℕ
 lastIn t = partitionsIn (t .partitions) - 1
 
--- What is asked of the two tables besides, each hypothesis by a name.
+-- What is asked of two accepted tables, each hypothesis by a name.
 pub data Hypothesis : Type 0 where
   same-n same-moduli same-offsets same-delimiter : Hypothesis
   kept-starts kept-ends last-end : Hypothesis
@@ -47,7 +47,7 @@ pub data Hypothesis : Type 0 where
 
 module _ (older newer : Table) where
   abbrev pub Says : Hypothesis → Type 0
-  -- "Two tables have one layout if n, the first n moduli, the first n offsets and the delimiter are equal."
+  -- "Two tables have one layout if n, the first n moduli, the first n offsets and the delimiter are equal." Later slots may differ.
   Says same-n = newer .layout .n ≡ older .layout .n
   Says same-moduli = take (older .layout .n) (newer .layout .moduli) ≡ moduliOf (older .layout)
   Says same-offsets = take (older .layout .n) (newer .layout .offsets) ≡ offsetsOf (older .layout)
@@ -74,6 +74,16 @@ oneOf (n ∷ ns) k = eqb n k || oneOf ns k
 pub record Agree {A : Type 0} (numbers : List ℕ) (older newer : Answer A) : Type 0 where
   pub same : (a : A) → older ≡ answer a → newer ≡ answer a
   pub refuses : (a : A) (k : Refusal) → newer ≡ answer a → older ≡ refused k → oneOf numbers k ≡ true
+
+-- "the older refuses: a stamp with 10 or 11, a count to print or to turn into time with 12, a time with 14"
+abbrev pub stampRefusals : List ℕ
+stampRefusals = 10 ∷ 11 ∷ []
+
+abbrev pub countRefusals : List ℕ
+countRefusals = 12 ∷ []
+
+abbrev pub timeRefusals : List ℕ
+timeRefusals = 14 ∷ []
 
 -- The four calls under a table.
 abbrev pub readBy : Table → List ℕ → Answer ℕ
@@ -128,12 +138,9 @@ module _ (older newer : Table) where
 
   -- "Then ask both the same, in any of those four directions, whatever the stamp, count or time."
   pub record Demand3 : Type 0 where
-    -- "a stamp with 10 or 11"
-    pub reading : (s : List ℕ) → Agree (10 ∷ 11 ∷ []) (readBy older s) (readBy newer s)
-    -- "a count to print .. with 12", into "two buffers of one length, whatever they hold"
-    pub printing : (e : ℕ) (b c : List ℕ) → length b ≡ length c → (Exception e → ⊥) → Agree (12 ∷ []) (printed older e b) (printed newer e c)
+    pub reading : (s : List ℕ) → Agree stampRefusals (readBy older s) (readBy newer s)
+    -- "for printing two buffers of one length, whatever they hold"
+    pub printing : (e : ℕ) (b c : List ℕ) → length b ≡ length c → (Exception e → ⊥) → Agree countRefusals (printed older e b) (printed newer e c)
     pub exception : (e : ℕ) → Exception e → Apart e
-    -- "or to turn into time with 12"
-    pub time-of : (e : ℕ) → Agree (12 ∷ []) (timeBy older e) (timeBy newer e)
-    -- "a time with 14"
-    pub count-at : (t : ℤ) → Agree (14 ∷ []) (countBy older t) (countBy newer t)
+    pub time-of : (e : ℕ) → Agree countRefusals (timeBy older e) (timeBy newer e)
+    pub count-at : (t : ℤ) → Agree timeRefusals (countBy older t) (countBy newer t)
