@@ -15,7 +15,8 @@ use Rattle.rules.specs.Partitions.{partitionsOk, endOf, totalOf}
 use Rattle.rules.specs.Stamp.{readStamp, slashIn}
 use Rattle.rules.specs.Print.{fitting, stampPrint, printStamp, lengthPrinted, bufferAfter}
 use Rattle.rules.specs.Time.{accepted, timeOf, countAt}
-use Rattle.versions.specs.Versions.{Table, Accepted, lastIn, Hypothesis, Says, oneOf, Agree, stampRefusals, countRefusals, timeRefusals, readBy, printBy, timeBy, countBy, Printed, shown, printed, Exception, Apart, olderPrint, newerPrint, Demand3}
+use Rattle.versions.specs.Versions.{Table, Accepted, lastIn, Hypothesis, Says, oneOf, Agree, stampRefusals, countRefusals, timeRefusals}
+use Rattle.versions.specs.Versions.{readBy, printBy, timeBy, countBy, Printed, shown, printed, Exception, Apart, olderPrint, newerPrint, Demand3}
 use Rattle.versions.proofs.Agreement.{agree-same, agree-refused, agree-unless}
 use Rattle.versions.proofs.Layouts.{OneLayout}
 use Rattle.versions.proofs.Partitions.{KeptPartitions, total-up}
@@ -72,7 +73,7 @@ module _ (older newer : Table) (was : Accepted older) (is : Accepted newer) (say
   unfolding countAt
   counts-agree t =
       rw (through-three older was, through-three newer is)
-      (agree-unless 14 _ (count-agrees _ _ _ _ _ _ one (unit older newer was is says) rows (kept-segments older newer was is says) t))
+      (agree-unless 14 _ (count-agrees _ _ _ _ _ _ one rows (kept-segments older newer was is says) (unit older newer was is says) t))
 
   print-same : (e room : ℕ) → e ≤ totalOf (older .partitions) → (Exception older newer e → ⊥) → printBy newer e room ≡ printBy older e room
   unfolding unless
@@ -97,12 +98,15 @@ module _ (older newer : Table) (was : Accepted older) (is : Accepted newer) (say
     older-prints : (room : ℕ) → printBy older e room ≡ fitting room (olderPrint older)
     unfolding stampPrint unless
     older-prints room =
-        rw (print-is older was, le-leb e (totalOf (older .partitions)) (omega (arith, total)), older-last _ _ rows e total, older-end _ _ rows e total)
+        rw
+        (print-is older was, le-leb e (totalOf (older .partitions)) (omega (arith, total)), older-last _ _ rows e total, older-end _ _ rows e total)
 
     newer-prints : (room : ℕ) → printBy newer e room ≡ fitting room (newerPrint older newer)
     unfolding stampPrint unless
     newer-prints room =
-        rw (print-is newer is, le-leb e (totalOf (newer .partitions)) (omega (arith, total, total-up _ _ rows)), newer-next _ _ rows e total kept-end (omega arith), newer-start _ _ rows e total kept-end)
+        let fits : e ≤ totalOf (newer .partitions) = omega (arith, total, total-up _ _ rows) in
+        let next = newer-next _ _ rows e total kept-end (omega arith) in
+        rw (print-is newer is, le-leb e (totalOf (newer .partitions)) fits, next, newer-start _ _ rows e total kept-end)
 
     apart : Apart older newer e
     apart = record { older-prints = older-prints; newer-prints = newer-prints; differ = numbers-differ _ _ _ }

@@ -14,7 +14,8 @@ use Rattle.rules.specs.Facts.{LayoutFacts, PartitionsFacts, SegmentsFacts}
 use Rattle.rules.specs.Partitions.{partitionsIn, endOf, totalOf}
 use Rattle.rules.specs.Segments.{segmentsIn, countOf, timeAt, unitOf, lineAt, stepsBackAt, stepsBack}
 use Rattle.rules.proofs.Accepted.{layout-facts, partitions-facts, segments-facts}
-use Rattle.versions.specs.Versions.{Table, Accepted, lastIn, Hypothesis, same-n, same-moduli, same-offsets, same-delimiter, kept-starts, kept-ends, last-end, kept-counts, kept-times, kept-rates, further-counts, no-step-back, Says}
+use Rattle.versions.specs.Versions.{Table, Accepted, lastIn, Hypothesis, Says}
+use Rattle.versions.specs.Versions.{same-n, same-moduli, same-offsets, same-delimiter, kept-starts, kept-ends, last-end, kept-counts, kept-times, kept-rates, further-counts, no-step-back}
 use Rattle.versions.proofs.Lists.{begins-longer, begins-at, all-after}
 use Rattle.versions.proofs.Layouts.{OneLayout, unit-positive}
 use Rattle.versions.proofs.Partitions.{KeptPartitions}

@@ -12,7 +12,8 @@ use Rattle.base.proofs.Tests.{and-first, and-second, not-both, all-of-head, all
 use Rattle.rules.specs.Layout.{moduliOf, offsetsOf, layoutOk}
 use Rattle.rules.specs.Partitions.{endOf, totalOf, partitionsOk}
 use Rattle.rules.specs.Segments.{segmentsIn, stepsBack, segmentsOk}
-use Rattle.versions.specs.Versions.{Table, Accepted, lastIn, Hypothesis, same-n, same-moduli, same-offsets, same-delimiter, kept-starts, kept-ends, last-end, kept-counts, kept-times, kept-rates, further-counts, no-step-back, Says, Demand3}
+use Rattle.versions.specs.Versions.{Table, Accepted, lastIn, Hypothesis, Says, Demand3}
+use Rattle.versions.specs.Versions.{same-n, same-moduli, same-offsets, same-delimiter, kept-starts, kept-ends, last-end, kept-counts, kept-times, kept-rates, further-counts, no-step-back}
 use Rattle.versions.proofs.Demand3.{demand-3}
 
 unfoldable pub eqZ : ℤ → ℤ → Bool

@@ -1,4 +1,4 @@
--- Every hypothesis is needed.
+-- Every hypothesis is needed: the rows of specs/Needed.antt are computed, and what they compute refutes the claim.
 use Prim.Native.Nat.{ℕ, _+_, _*_}
 use mathlib.Core.Path.{_≡_, refl, ap}
 use mathlib.Core.Bool.{Bool, true, false, not, _&&_, _||_}
@@ -11,7 +11,8 @@ use Rattle.base.specs.Scans.{allOf}
 use Rattle.base.proofs.Tests.{and-both, not-both}
 use Rattle.rules.specs.Answer.{Answer, answer, refused}
 use Rattle.rules.specs.Partitions.{partitionsIn, totalOf}
-use Rattle.versions.specs.Versions.{Table, Hypothesis, same-n, same-moduli, same-offsets, same-delimiter, kept-starts, kept-ends, last-end, kept-counts, kept-times, kept-rates, further-counts, no-step-back, Hypothesis-discrete, Accepted, Says, Agree, Exception, Demand3}
+use Rattle.versions.specs.Versions.{Table, Hypothesis, Hypothesis-discrete, Accepted, Says, Agree, Exception, Demand3}
+use Rattle.versions.specs.Versions.{same-n, same-moduli, same-offsets, same-delimiter, kept-starts, kept-ends, last-end, kept-counts, kept-times, kept-rates, further-counts, no-step-back}
 use Rattle.versions.specs.Needed.{Question, stamp, print, time, count, Reply, counted, shown, timed, ask, Row, pair, Needed}
 use Rattle.versions.proofs.Computing.{computing}
 use Rattle.versions.proofs.Demand3.{demand-3}
@@ -41,11 +42,13 @@ answered (counted a) = isAnswer a
 answered (shown a) = isAnswer a
 answered (timed a) = isAnswer a
 
+-- where the older answers, the newer replies the same
 same-answer : {A : Type 0} {ks : List ℕ} (a b : Answer A) → Agree ks a b → isAnswer a ≡ true → b ≡ a
 unfolding isAnswer
 same-answer (answer x) b h t = h .same x refl
 same-answer (refused k) b h t = absurd (not-both t refl)
 
+-- a question that is not the exception
 module _ (older newer : Table) where
   outside : Question → Bool
   outside (stamp s) = true
@@ -64,6 +67,7 @@ module _ (older newer : Table) where
   same-reply d (time e) o t = ap timed (same-answer _ _ (d .time-of e) t)
   same-reply d (count at) o t = ap counted (same-answer _ _ (d .count-at at) t)
 
+-- every hypothesis but h
 isSame : Hypothesis → Hypothesis → Bool
 isSame k h = elim (Hypothesis-discrete k h) [ yes e ↦ true | no n ↦ false ]
 
@@ -85,28 +89,28 @@ tests h r =
     ∷ not (eqb (code (ask (r .newer) (r .asked))) (code (ask (r .older) (r .asked))))
     ∷ []
 
-record Computed (h : Hypothesis) (r : Row) : Type 0 where
-  tested : allOf (tests h r) ≡ true
-  older-replies : ask (r .older) (r .asked) ≡ r .older-says
-  newer-replies : ask (r .newer) (r .asked) ≡ r .newer-says
+abbrev Computed : Hypothesis → Row → Type 0
+Computed h r =
+    (allOf (tests h r) ≡ true) × (ask (r .older) (r .asked) ≡ r .older-says) × (ask (r .newer) (r .asked) ≡ r .newer-says)
 
 computed : (h : Hypothesis) → Computed h (pair h)
 unfolding computing tests isSame outside answered isAnswer code byteCode
-computed same-n = record { tested = refl; older-replies = refl; newer-replies = refl }
-computed same-moduli = record { tested = refl; older-replies = refl; newer-replies = refl }
-computed same-offsets = record { tested = refl; older-replies = refl; newer-replies = refl }
-computed same-delimiter = record { tested = refl; older-replies = refl; newer-replies = refl }
-computed kept-starts = record { tested = refl; older-replies = refl; newer-replies = refl }
-computed kept-ends = record { tested = refl; older-replies = refl; newer-replies = refl }
-computed last-end = record { tested = refl; older-replies = refl; newer-replies = refl }
-computed kept-counts = record { tested = refl; older-replies = refl; newer-replies = refl }
-computed kept-times = record { tested = refl; older-replies = refl; newer-replies = refl }
-computed kept-rates = record { tested = refl; older-replies = refl; newer-replies = refl }
-computed further-counts = record { tested = refl; older-replies = refl; newer-replies = refl }
-computed no-step-back = record { tested = refl; older-replies = refl; newer-replies = refl }
+computed same-n = (refl, refl, refl)
+computed same-moduli = (refl, refl, refl)
+computed same-offsets = (refl, refl, refl)
+computed same-delimiter = (refl, refl, refl)
+computed kept-starts = (refl, refl, refl)
+computed kept-ends = (refl, refl, refl)
+computed last-end = (refl, refl, refl)
+computed kept-counts = (refl, refl, refl)
+computed kept-times = (refl, refl, refl)
+computed kept-rates = (refl, refl, refl)
+computed further-counts = (refl, refl, refl)
+computed no-step-back = (refl, refl, refl)
 
 -- a hypothesis and all the others
-all-says : (older newer : Table) (h : Hypothesis) → ((k : Hypothesis) → (k ≡ h → ⊥) → Says older newer k) → Says older newer h → (k : Hypothesis) → Says older newer k
+all-says : (older newer : Table) (h : Hypothesis) → ((k : Hypothesis) → (k ≡ h → ⊥) → Says older newer k) → Says older newer h
+    → (k : Hypothesis) → Says older newer k
 all-says older newer h others s k = go (Hypothesis-discrete k h)
   where
     go : Dec (k ≡ h) → Says older newer k
@@ -121,7 +125,7 @@ module _ (h : Hypothesis) where
   newer = pair h .newer
 
   tested : (i : ℕ) → getD (tests h (pair h)) i true ≡ true
-  tested i = all-of-at _ i (computed h .tested)
+  tested i = all-of-at _ i (computed h .0)
 
   accepted-older : Accepted older
   unfolding tests
@@ -146,7 +150,7 @@ module _ (h : Hypothesis) where
         accepted-newer = accepted-newer;
         others = others;
         broken = λ s. fails (demand-3 older newer accepted-older accepted-newer (all-says older newer h others s));
-        older-replies = computed h .older-replies;
-        newer-replies = computed h .newer-replies;
+        older-replies = computed h .1;
+        newer-replies = computed h .2;
         fails = fails;
       }

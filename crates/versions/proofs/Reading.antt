@@ -69,7 +69,8 @@ module _ (p q : Partitions) (kept : KeptPartitions p q) (c : ℕ) where
   unfolding encodeFirst encodeFound oneOf
   first-agrees =
       ⊎-elim
-      (λ w. agree-same (rw (first-is (holds p c) (partitionsIn p) (w .0) (w .1), first-is (holds q c) (partitionsIn q) (w .0) (first-kept (w .0) (w .1)), encoded-same (w .0) (w .1 .below))))
+      (λ w. let found = first-is (holds q c) (partitionsIn q) (w .0) (first-kept (w .0) (w .1)) in
+      agree-same (rw (first-is (holds p c) (partitionsIn p) (w .0) (w .1), found, encoded-same (w .0) (w .1 .below))))
       (λ f. agree-refused 11 (rw (first-none (holds p c) (partitionsIn p) f)) refl)
       (first-or (holds p c) (partitionsIn p))
 

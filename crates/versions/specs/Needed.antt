@@ -11,7 +11,8 @@ use Rattle.rules.specs.Answer.{Answer, answer, refused}
 use Rattle.rules.specs.Partitions.{Partitions, partitions}
 use Rattle.rules.specs.Segments.{Segments, segments}
 use Rattle.rules.specs.Examples.{bytes, layoutA, partitionsA, segmentsA}
-use Rattle.versions.specs.Versions.{Table, Accepted, Hypothesis, same-n, same-moduli, same-offsets, same-delimiter, kept-starts, kept-ends, last-end, kept-counts, kept-times, kept-rates, further-counts, no-step-back, Says, readBy, Printed, printed, timeBy, countBy, Agree, countRefusals, Exception, Demand3}
+use Rattle.versions.specs.Versions.{Table, Accepted, Hypothesis, Says, readBy, Printed, printed, timeBy, countBy, Agree, countRefusals, Exception, Demand3}
+use Rattle.versions.specs.Versions.{same-n, same-moduli, same-offsets, same-delimiter, kept-starts, kept-ends, last-end, kept-counts, kept-times, kept-rates, further-counts, no-step-back}
 
 -- a clock of n fields: the moduli of the first two, the offset of the first, the delimiter
 abbrev pub clock : ℕ → ℕ → ℕ → ℕ → ℕ → Layout

@@ -1,5 +1,5 @@
 -- "An older table never misleads about a newer stamp": what is asked of two tables, and what is then claimed of the four calls.
--- proofs/Demand3.antt proves it for any two tables; proofs/Needed.antt shows that nothing asked, nor the exception, can be left out.
+-- proofs/Demand3.antt proves it for any two tables; specs/Needed.antt says that nothing asked, nor the exception, can be left out.
 use Prim.Native.Nat.{ℕ, _+_, _-_, _≤_, _<_}
 use mathlib.Core.Path.{_≡_}
 use mathlib.Core.Bool.{Bool, true, false, _||_}
