@@ -1,15 +1,10 @@
 -- One layout: the two tables read fields, print counts and tell the unit alike.
 use Prim.Native.Nat.{ℕ, _≤_}
 use native.Mathlib.Omega.{arith}
-use native.Mathlib.Nat.{one-le-mul}
 use mathlib.Core.Path.{_≡_}
-use mathlib.Core.Bool.{true}
-use mathlib.Core.List.{List, [], _∷_}
+use mathlib.Core.List.{List}
 use lib.ListN.{drop}
-use lib.Dec.{leb}
-use borrow.Author.Tests.{leb-true}
-use Rattle.base.specs.Scans.{all, product}
-use Rattle.base.proofs.Tests.{and-first, and-second}
+use Rattle.base.proofs.Lists.{all-drop-one, product-pos}
 use Rattle.rules.specs.declared.Layout.{Layout}
 use Rattle.rules.specs.Layout.{moduliOf, offsetsOf, msfOf}
 use Rattle.rules.specs.Segments.{unitOf}
@@ -37,16 +32,6 @@ module _ (l k : Layout) (one : OneLayout l k) where
   unfolding countPrint
   print-same c = rw (one .moduli, one .offsets, one .delimiter)
 
-positive : (ms : List ℕ) → all (λ m. leb 1 m) ms ≡ true → 1 ≤ product ms
-unfolding all product
-positive [] h = omega arith
-positive (m ∷ ms) h = one-le-mul (leb-true 1 m (and-first _ _ h)) (positive ms (and-second (leb 1 m) _ h))
-
-positive-after : (ms : List ℕ) → all (λ m. leb 1 m) ms ≡ true → 1 ≤ product (drop 1 ms)
-unfolding all product
-positive-after [] h = omega arith
-positive-after (m ∷ ms) h = positive ms (and-second (leb 1 m) _ h)
-
 pub unit-positive : (l : Layout) → LayoutFacts l → 1 ≤ unitOf l
 unfolding unitOf msfOf
-unit-positive l f = omega (arith, positive-after (moduliOf l) (f .moduli))
+unit-positive l f = omega (arith, product-pos (drop 1 (moduliOf l)) (all-drop-one _ (moduliOf l) (f .moduli)))

@@ -1,16 +1,17 @@
 -- A list that begins with another, all of a list, and the last number that passes a test which fails from some number on.
-use Prim.Native.Nat.{ℕ, zero, suc, _≤_, _<_}
+use Prim.Native.Nat.{ℕ, _+_, _-_, _≤_, _<_}
 use native.Mathlib.Omega.{arith}
 use mathlib.Core.Path.{_≡_, sym, ap, _∙_}
 use mathlib.Core.Bool.{Bool, true, false}
-use mathlib.Core.List.{List, [], _∷_}
+use mathlib.Core.List.{List}
 use mathlib.Core.Logic.{⊎-elim}
-use lib.ListN.{length, drop, getD, length-take}
-use lib.Seq.{getD-take}
+use lib.ListN.{length, drop, getD, length-take, length-drop}
+use lib.Seq.{getD-take, getD-drop}
 use borrow.Author.Tests.{leb-true, leb-false}
 use lib.Dec.{leb}
 use Rattle.base.specs.Scans.{all, lastBelow}
-use Rattle.base.proofs.Tests.{by-test, and-first, and-second}
+use Rattle.base.proofs.Tests.{by-test}
+use Rattle.base.proofs.Lists.{all-getD}
 use Rattle.base.proofs.Scans.{Last, last-or, last-is, last-none}
 use Rattle.versions.specs.Versions.{Begins}
 
@@ -23,12 +24,9 @@ module _ {A : Type 0} where
 
 -- p holds of every element after the first n
 pub all-after : (p : ℕ → Bool) (xs : List ℕ) (n i : ℕ) → all p (drop n xs) ≡ true → n ≤ i → i < length xs → p (getD xs i 0) ≡ true
-unfolding all
-all-after p [] n i h b l = absurd (omega arith)
-all-after p (x ∷ xs) zero zero h b l = and-first (p x) (all p xs) h
-all-after p (x ∷ xs) zero (suc i) h b l = all-after p xs zero i (and-second (p x) (all p xs) h) (omega arith) (omega arith)
-all-after p (x ∷ xs) (suc n) zero h b l = absurd (omega arith)
-all-after p (x ∷ xs) (suc n) (suc i) h b l = all-after p xs n i h (omega arith) (omega arith)
+all-after p xs n i h b l =
+    let e : n + (i - n) ≡ i = omega arith in
+    rw (getD-drop n xs (i - n) 0, e) at (all-getD p (drop n xs) (i - n) h (rw (length-drop n xs) (omega arith)))
 
 -- a test that fails from n on finds below m what it finds below n
 module _ (p q : ℕ → Bool) (n m : ℕ) (longer : n ≤ m) (same : (i : ℕ) → i < n → q i ≡ p i) (fails : (i : ℕ) → n ≤ i → i < m → q i ≡ false) where

@@ -1,7 +1,7 @@
 -- The count at a time: while the older's answer is at most its total, no further segment has begun, since the newer nowhere steps back.
 use Prim.Native.Nat.{ℕ, zero, suc, _+_, _-_, _*_, _≤_, _<_}
 use native.Mathlib.Omega.{arith}
-use native.Mathlib.Nat.{mul-comm, le-div-iff-mul-le, div-lt-iff-lt-mul, add-zero}
+use native.Mathlib.Nat.{mul-comm, add-zero}
 use mathlib.Core.Path.{_≡_, refl, sym, _∙_}
 use mathlib.Core.Bool.{Bool, true, false}
 use mathlib.Core.Option.{some}
@@ -10,8 +10,9 @@ use lib.Dec.{leb}
 use lib.IntN.{ℤ}
 use lib.Signed.{leZ, ltZ}
 use borrow.Author.Tests.{ltb-true, ltb-false, leb-true, le-leb, lt-leb, lt-ltb}
-use Rattle.base.specs.Rounding.{roundUp, roundDown}
+use Rattle.base.specs.Rounding.{roundUp}
 use Rattle.base.specs.Signed.{elapsed}
+use Rattle.base.proofs.Rounding.{at-most-up, down-at-least}
 use Rattle.base.proofs.Tests.{by-test}
 use Rattle.base.proofs.Scans.{Last, last-or, last-is, last-none}
 use Rattle.rules.specs.declared.Layout.{Layout}
@@ -27,19 +28,14 @@ use Rattle.versions.proofs.Layouts.{OneLayout, unit-same}
 use Rattle.versions.proofs.Partitions.{KeptPartitions, total-up}
 use Rattle.versions.proofs.Segments.{KeptSegments}
 
--- a product whose quotient, rounded up, is at most n
-up-within : (x d n : ℕ) → 1 ≤ d → roundUp x d ≤ n → x ≤ n * d
-unfolding roundUp
-up-within x d n h b = let m = div-lt-iff-lt-mul {k = d} {x = x + (d - 1)} {y = n + 1} h .0 (omega arith) in omega arith
-
 -- a line that by its own count e was not later than u has reached e at any time from u on
 line-reaches : (l : Layout) (g : Segments) (i e : ℕ) (u t : ℤ) → 1 ≤ unitOf l → 1 ≤ rateOf g i
     → ltZ u (lineAt l g i e) ≡ false → leZ u t ≡ true → e ≤ lineCount l g i t
-unfolding lineAt lineCount roundDown
+unfolding lineAt lineCount
 line-reaches l g i e u t pu pr h b =
     let d = later-elapsed (timeAt g i) t (roundUp (rateOf g i * (e - countOf g i)) (unitOf l)) (not-later u _ t h b) in
-    let m = up-within (rateOf g i * (e - countOf g i)) (unitOf l) (elapsed (timeAt g i) t) pu d in
-    let c = le-div-iff-mul-le {k = rateOf g i} {x = e - countOf g i} {y = elapsed (timeAt g i) t * unitOf l} pr .1 (rw (mul-comm (rateOf g i) (e - countOf g i)) at m) in
+    let m = at-most-up (rateOf g i * (e - countOf g i)) (unitOf l) (elapsed (timeAt g i) t) pu d in
+    let c = down-at-least (elapsed (timeAt g i) t * unitOf l) (rateOf g i) (e - countOf g i) pr (rw (mul-comm (rateOf g i) (e - countOf g i)) at m) in
     omega arith
 
 -- a count below the next segment's is not stopped
