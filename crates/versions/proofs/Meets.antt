@@ -2,7 +2,7 @@
 use Prim.Native.Nat.{ℕ, zero, suc}
 use mathlib.Core.Path.{_≡_, refl, ap}
 use mathlib.Core.Bool.{Bool, true, false, not, _&&_}
-use mathlib.Core.List.{List, [], _∷_}
+use mathlib.Core.List.{List, [], _∷_, map}
 use lib.Dec.{eqb, leb, ltb}
 use lib.IntN.{ℤ, pos, negsuc}
 use lib.ListN.{length, take, drop, getD}
@@ -96,38 +96,64 @@ pub passes-accepted : (t : Table) → passes t ≡ true → Accepted t
 unfolding passes
 passes-accepted t h = record { layout = all-of-at _ 0 h; partitions = all-of-at _ 1 h; segments = all-of-at _ 2 h }
 
+-- the hypotheses by number
+unfoldable pub hypotheses : List Hypothesis
+hypotheses =
+    same-n
+    ∷ same-moduli
+    ∷ same-offsets
+    ∷ same-delimiter
+    ∷ kept-starts
+    ∷ kept-ends
+    ∷ last-end
+    ∷ kept-counts
+    ∷ kept-times
+    ∷ kept-rates
+    ∷ further-counts
+    ∷ no-step-back
+    ∷ []
+
+unfoldable pub index : Hypothesis → ℕ
+index same-n = 0
+index same-moduli = 1
+index same-offsets = 2
+index same-delimiter = 3
+index kept-starts = 4
+index kept-ends = 5
+index last-end = 6
+index kept-counts = 7
+index kept-times = 8
+index kept-rates = 9
+index further-counts = 10
+index no-step-back = 11
+
+pub at-index : (h : Hypothesis) → getD hypotheses (index h) same-n ≡ h
+unfolding hypotheses index
+at-index same-n = refl
+at-index same-moduli = refl
+at-index same-offsets = refl
+at-index same-delimiter = refl
+at-index kept-starts = refl
+at-index kept-ends = refl
+at-index last-end = refl
+at-index kept-counts = refl
+at-index kept-times = refl
+at-index kept-rates = refl
+at-index further-counts = refl
+at-index no-step-back = refl
+
 -- f holds of every hypothesis
 unfoldable pub each : (Hypothesis → Bool) → Bool
-each f =
-    allOf
-    (f same-n
-    ∷ f same-moduli
-    ∷ f same-offsets
-    ∷ f same-delimiter
-    ∷ f kept-starts
-    ∷ f kept-ends
-    ∷ f last-end
-    ∷ f kept-counts
-    ∷ f kept-times
-    ∷ f kept-rates
-    ∷ f further-counts
-    ∷ f no-step-back
-    ∷ [])
+each f = allOf (map f hypotheses)
+
+all-of-map : (f : Hypothesis → Bool) (hs : List Hypothesis) (d : Hypothesis) (i : ℕ) → f d ≡ true → allOf (map f hs) ≡ true → f (getD hs i d) ≡ true
+all-of-map f [] d i e t = e
+all-of-map f (h ∷ hs) d zero e t = all-of-head _ _ t
+all-of-map f (h ∷ hs) d (suc i) e t = all-of-map f hs d i e (all-of-tail _ _ t)
 
 pub each-at : (f : Hypothesis → Bool) → each f ≡ true → (h : Hypothesis) → f h ≡ true
-unfolding each
-each-at f t same-n = all-of-at _ 0 t
-each-at f t same-moduli = all-of-at _ 1 t
-each-at f t same-offsets = all-of-at _ 2 t
-each-at f t same-delimiter = all-of-at _ 3 t
-each-at f t kept-starts = all-of-at _ 4 t
-each-at f t kept-ends = all-of-at _ 5 t
-each-at f t last-end = all-of-at _ 6 t
-each-at f t kept-counts = all-of-at _ 7 t
-each-at f t kept-times = all-of-at _ 8 t
-each-at f t kept-rates = all-of-at _ 9 t
-each-at f t further-counts = all-of-at _ 10 t
-each-at f t no-step-back = all-of-at _ 11 t
+unfolding each hypotheses
+each-at f t h = rw (at-index h) at (all-of-map f hypotheses same-n (index h) (all-of-head _ _ t) t)
 
 pub meets-all : (older newer : Table) → each (meets older newer) ≡ true → (h : Hypothesis) → Says older newer h
 meets-all older newer t h = meets-says older newer h (each-at (meets older newer) t h)

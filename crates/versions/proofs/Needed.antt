@@ -1,22 +1,22 @@
 -- Every hypothesis is needed: the rows of specs/Needed.antt are computed, and what they compute refutes the claim.
 use Prim.Native.Nat.{ℕ, _+_, _*_}
-use mathlib.Core.Path.{_≡_, refl, ap}
+use mathlib.Core.Path.{_≡_, refl, sym, ap, _∙_}
 use mathlib.Core.Bool.{Bool, true, false, not, _&&_, _||_}
 use mathlib.Core.List.{List, [], _∷_}
 use lib.Dec.{eqb, ltb}
 use lib.IntN.{pos, negsuc}
 use lib.ListN.{replicate, getD}
-use borrow.Author.Tests.{eq-eqb, lt-ltb, not-true}
+use borrow.Author.Tests.{eq-eqb, eqb-true, lt-ltb, not-true}
 use Rattle.base.specs.Scans.{allOf}
-use Rattle.base.proofs.Tests.{and-both, not-both}
+use Rattle.base.proofs.Tests.{by-test, and-both, not-both}
 use Rattle.rules.specs.Answer.{Answer, answer, refused}
 use Rattle.rules.specs.Partitions.{partitionsIn, totalOf}
-use Rattle.versions.specs.Versions.{Table, Hypothesis, Hypothesis-discrete, Accepted, Says, Agree, Exception, Demand3}
+use Rattle.versions.specs.Versions.{Table, Hypothesis, Accepted, Says, Agree, Exception, Demand3}
 use Rattle.versions.specs.Versions.{same-n, same-moduli, same-offsets, same-delimiter, kept-starts, kept-ends, last-end, kept-counts, kept-times, kept-rates, further-counts, no-step-back}
 use Rattle.versions.specs.Needed.{Question, stamp, print, time, count, Reply, counted, shown, timed, ask, Row, pair, Needed}
 use Rattle.versions.proofs.Computing.{computing}
 use Rattle.versions.proofs.Demand3.{demand-3}
-use Rattle.versions.proofs.Meets.{meets, meets-says, passes, passes-accepted, each, each-at, all-of-at}
+use Rattle.versions.proofs.Meets.{hypotheses, index, at-index, meets, meets-says, passes, passes-accepted, each, each-at, all-of-at}
 
 -- a number by which two replies are told apart
 byteCode : List ℕ → ℕ
@@ -69,14 +69,18 @@ module _ (older newer : Table) where
 
 -- every hypothesis but h
 isSame : Hypothesis → Hypothesis → Bool
-isSame k h = elim (Hypothesis-discrete k h) [ yes e ↦ true | no n ↦ false ]
+isSame k h = eqb (index k) (index h)
+
+same-is : (k h : Hypothesis) → isSame k h ≡ true → k ≡ h
+unfolding isSame
+same-is k h t = sym (at-index k) ∙ ap (λ i. getD hypotheses i same-n) (eqb-true _ _ t) ∙ at-index h
+
+is-same : (k h : Hypothesis) → k ≡ h → isSame k h ≡ true
+unfolding isSame
+is-same k h e = eq-eqb _ _ (ap index e)
 
 other-meets : (k h : Hypothesis) (t : Bool) → (isSame k h || t) ≡ true → (k ≡ h → ⊥) → t ≡ true
-other-meets k h t e n = go (Hypothesis-discrete k h) refl
-  where
-    go : (d : Dec (k ≡ h)) → Hypothesis-discrete k h ≡ d → t ≡ true
-    go (yes p) q = absurd (n p)
-    go (no m) q = unfold isSame in rw (q, isSame) at e
+other-meets k h t e n = by-test (isSame k h) (λ y. absurd (n (same-is k h y))) (λ f. rw f at e)
 
 -- The rows, by computation: the tests, and what the two tables reply.
 tests : Hypothesis → Row → List Bool
@@ -111,11 +115,8 @@ computed no-step-back = (refl, refl, refl)
 -- a hypothesis and all the others
 all-says : (older newer : Table) (h : Hypothesis) → ((k : Hypothesis) → (k ≡ h → ⊥) → Says older newer k) → Says older newer h
     → (k : Hypothesis) → Says older newer k
-all-says older newer h others s k = go (Hypothesis-discrete k h)
-  where
-    go : Dec (k ≡ h) → Says older newer k
-    go (yes e) = rw e s
-    go (no n) = others k n
+all-says older newer h others s k =
+    by-test (isSame k h) (λ y. rw (same-is k h y) s) (λ f. others k (λ e. not-both (is-same k h e) f))
 
 module _ (h : Hypothesis) where
   abbrev older : Table

@@ -43,7 +43,6 @@ pub data Hypothesis : Type 0 where
   kept-starts kept-ends last-end : Hypothesis
   kept-counts kept-times kept-rates further-counts : Hypothesis
   no-step-back : Hypothesis
-  deriving Discrete as Hypothesis-discrete
 
 module _ (older newer : Table) where
   abbrev pub Says : Hypothesis → Type 0
