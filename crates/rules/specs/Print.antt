@@ -40,7 +40,6 @@ fieldPrint v m o = padded (fieldWidth m o) (v + o)
 unfoldable pub delimiterByte : ℕ → ℕ
 delimiterByte d = getD (46 ∷ 58 ∷ 45 ∷ 44 ∷ 32 ∷ []) (d - 1) 0
 
--- the fields after the first, each with the delimiter in front
 -- "A count below P is split into fields by the moduli", the first field the count over the product of the later moduli.
 -- "Fields are joined by the delimiter."
 unfoldable pub fieldsPrint : ℕ → ℕ → List ℕ → List ℕ → List ℕ
