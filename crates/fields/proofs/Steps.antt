@@ -24,10 +24,10 @@ pub last-mark : (b : ℕ) → (b ≡ 46 → ⊥) → (b ≡ 58 → ⊥) → (b �
 last-mark b x y z = rw (ne-eqb b 46 x, ne-eqb b 58 y, ne-eqb b 44 z)
 
 module _ {A : Type 0} {b : Bool} (x y : A) where
-  cond-yes : b ≡ true → cond b x y ≡ x
+  pub cond-yes : b ≡ true → cond b x y ≡ x
   cond-yes t = rw t
 
-  cond-no : b ≡ false → cond b x y ≡ y
+  pub cond-no : b ≡ false → cond b x y ≡ y
   cond-no f = rw f
 
 module _ (ms os : List ℕ) where
