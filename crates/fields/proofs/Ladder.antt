@@ -4,19 +4,22 @@ use mathlib.Core.Path.{_≡_, refl, sym, ap, _∙_}
 use mathlib.Core.Bool.{Bool, true, false, cond, _||_}
 use mathlib.Core.List.{List, [], _∷_}
 use lib.Dec.{leb, ltb, eqb}
-use lib.ListN.{length, getD, drop}
+use lib.ListN.{length, getD, take, drop}
+use lib.Seq.{take-all, take-length, take-take, length-take-le}
 use borrow.Author.Tests.{le-leb, lt-leb, leb-true, leb-false, lt-ltb, eq-eqb, eqb-true, eqb-false}
-use native.Mathlib.Nat.{add-mul, mul-assoc, zero-mul, zero-add, add-zero}
+use native.Mathlib.Nat.{add-mul, mul-assoc, zero-mul, zero-add, add-zero, le-refl}
 use native.Mathlib.Omega.{arith}
 use Rattle.base.specs.Scans.{product}
 use Rattle.base.proofs.Lists.{drop-next}
 use Rattle.base.proofs.Tests.{by-test, or-second}
 use Rattle.rules.specs.Limits.{largestField, largestCount}
 use Rattle.rules.specs.Answer.{Answer, answer, refused, unless}
-use Rattle.rules.specs.Text.{Field, isPresent, valueOf, ticksOf, sumOf, firstPresent, notAbove, notBelow, eachField, fieldsOf}
+use Rattle.rules.specs.declared.Layout.{Layout}
+use Rattle.rules.specs.Layout.{moduliOf, offsetsOf}
+use Rattle.rules.specs.Text.{Field, isPresent, valueOf, ticksOf, sumOf, firstPresent, notAbove, notBelow, eachField, fieldsOf, fieldsCount}
 use Rattle.fields.specs.declared.Pass.{Pass}
 use Rattle.fields.specs.Pass.{fieldCap, sumCap, valueFault, faultIn, faultWith, ticksIn, sumWith, begun, next, sumIn, total}
-use Rattle.fields.specs.Count.{countIn}
+use Rattle.fields.specs.Clock.{clock}
 use Rattle.fields.proofs.Caps.{cap-mul-add, cap-mul}
 use Rattle.fields.proofs.Steps.{next-none, next-one}
 use Rattle.fields.proofs.Over.{filled, ended, run, over, split}
@@ -169,20 +172,29 @@ module _ (ms os : List ℕ) (e : length os ≡ length ms) where
       ∙ counts fs (k + 1) _ _ _ g l (sum-with k sum fault acc f h c)
       ∙ goes-on k sum fault acc f h c g fs)
 
-  whole : (fs : List Field) → rest 0 0 0 fs ≡ countIn ms os fs
-  unfolding rest countIn unless
-  whole fs = rw (zero-add, zero-mul, zero-add)
+  offsets : take (length ms) os ≡ os
+  offsets = take-all (length ms) os (omega arith)
+
+  whole : (fs : List Field) → rest 0 0 0 fs ≡ fieldsCount (clock ms os) fs
+  unfolding rest fieldsCount unless
+  whole fs = rw (zero-add, zero-mul, zero-add, take-length ms, offsets)
 
   total-ended : (q : Pass) → total ms os q ≡ total ms os (ended q)
   unfolding total sumIn sumWith faultWith ticksIn faultIn
   total-ended q = refl
 
   -- The pass over a text ends in the count of its fields.
-  pub counted : (s : List ℕ) → 1 ≤ length ms → total ms os (run ms os begun s) ≡ countIn ms os (fieldsOf s)
+  pub counted : (s : List ℕ) → 1 ≤ length ms → total ms os (run ms os begun s) ≡ fieldsCount (clock ms os) (fieldsOf s)
   counted s n =
       let w = split ms os s in
       total-ended (run ms os begun s)
       ∙ ap (total ms os) (w .passed)
       ∙ counts (w .rest) 0 0 0 0 (w .first) n refl
       ∙ whole (w .first ∷ w .rest)
-      ∙ ap (countIn ms os) (sym (w .fields))
+      ∙ ap (fieldsCount (clock ms os)) (sym (w .fields))
+
+-- Slots after the n-th are not looked at.
+module _ (l : Layout) (h : l .n ≤ length (l .moduli)) where
+  pub same-count : (fs : List Field) → fieldsCount (clock (moduliOf l) (offsetsOf l)) fs ≡ fieldsCount l fs
+  unfolding fieldsCount
+  same-count fs = rw (length-take-le (l .n) (l .moduli) h, take-take (l .n) (l .n) (l .moduli) (le-refl _), take-take (l .n) (l .n) (l .offsets) (le-refl _))

@@ -3,3 +3,5 @@ pub mod Caps
 pub mod Steps
 pub mod Over
 pub mod Ladder
+pub mod Stops
+pub mod Front

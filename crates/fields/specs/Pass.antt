@@ -1,7 +1,7 @@
 -- The pass over clock text as the code goes: what it keeps after some bytes, one more byte, and the count at the end.
--- proofs/Reads.antt shows that this is the count of rules' specs/Text.antt.
+-- proofs/Ladder.antt shows that this is the count of rules' specs/Text.antt.
 use Prim.Native.Nat.{ℕ, _+_, _-_, _*_, min}
-use mathlib.Core.Bool.{Bool, true, false, cond}
+use mathlib.Core.Bool.{Bool, true, false, cond, _&&_}
 use mathlib.Core.List.{List, [], _∷_}
 use lib.Dec.{leb, eqb}
 use lib.ListN.{length, getD, drop}
@@ -56,6 +56,10 @@ withBlank p =
 -- more than n fields, the last of them the field given
 abbrev pub surplus : ℕ → Pass
 surplus k = record { field = k; present = false; gap = false; value = 0; sum = 0; fault = 7 }
+
+-- one field so far, and digits in it: a front part that is a number
+unfoldable pub alone : Pass → Bool
+alone p = eqb (p .field) 0 && eqb (p .fault) 0 && p .present
 
 module _ (ms os : List ℕ) where
   -- a mark: the next field, where there is one

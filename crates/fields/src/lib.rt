@@ -5,7 +5,7 @@ ghost use lib.ListN.{length, getD, drop};
 ghost use Rattle.base.specs.Scans.{product};
 ghost use Rattle.rules.specs.Text.{isDigit, isBlank, isMark, isAllowed};
 ghost use Rattle.rules.specs.Answer.{countAnswer};
-ghost use Rattle.fields.specs.Pass.{fieldCap, sumCap, begun, valueFault, faultIn, faultWith, ticksIn, sumWith, surplus, next, digitIn, withDigit, withBlank, scanFrom, sumIn, total};
+ghost use Rattle.fields.specs.Pass.{fieldCap, sumCap, begun, valueFault, faultIn, faultWith, ticksIn, sumWith, surplus, next, digitIn, withDigit, withBlank, alone, scanFrom, sumIn, total};
 use rules::CountAnswer;
 use rules::Layout;
 
@@ -39,6 +39,7 @@ pub struct Scanned {
 pub fn scan(moduli: &[u64], offsets: &[u64], text: &[u8], from: usize) -> Scanned
     requires { ⌜ (1 ≤ length (now moduli)) × (length (now offsets) ≡ length (now moduli)) × (from ≤ length (now text)) ⌝ }
     ensures { λ r. ⌜ r ≡ scanFrom (now (moduli .entry)) (now (offsets .entry)) begun from (drop from (now (text .entry))) ⌝ }
+    ensures { λ r. ⌜ r .pass .field < length (now (moduli .entry)) ⌝ }
 {
     let mut pass = Pass {
         field: 0,
@@ -230,6 +231,19 @@ fn is_mark(byte: u8) -> bool
         return true;
     }
     byte == b'-'
+}
+
+// Whether the pass met one field, with digits in it.
+pub fn is_number(pass: Pass) -> bool
+    ensures { λ r. ⌜ r ≡ alone pass ⌝ }
+{
+    if pass.field != 0 {
+        return false;
+    }
+    if pass.fault != 0 {
+        return false;
+    }
+    pass.present
 }
 
 // The count of a pass that reached the end of the text.

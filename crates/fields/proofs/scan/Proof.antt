@@ -93,11 +93,11 @@ loop-again-3 c = (search needs, search (blank-field, needs), search (turn-blank,
 
 -- src/lib.rt:64:13
 returns : tie.Need-returns Inv-loop μ-loop
-returns c = search (stop, needs)
+returns c = (search (stop, needs), search needs)
 
 -- src/lib.rt:39:1
 returns-2 : tie.Need-returns-2 Inv-loop μ-loop
-returns-2 c = search (ended, needs)
+returns-2 c = (search (ended, needs), search needs)
 
 pub scan-spec : {M : Type 1} → statement M
 scan-spec =
