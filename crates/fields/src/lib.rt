@@ -9,8 +9,6 @@ ghost use Rattle.fields.specs.Pass.{fieldCap, sumCap, begun, valueFault,
 use rules::CountAnswer;
 use rules::Layout;
 
-pub mod refusal;
-
 const LARGEST_FIELD: u64 = Layout::LARGEST_P + Layout::LARGEST_OFFSET;
 const FIELD_CAP: u64 = LARGEST_FIELD + 1;
 const SUM_CAP: u64 = Layout::LARGEST_P + 1;
@@ -137,7 +135,7 @@ fn next_field(moduli: &[u64], offsets: &[u64], pass: Pass) -> Pass
             gap: false,
             value: 0,
             sum: 0,
-            fault: refusal::TOO_MANY_FIELDS,
+            fault: refusals::TOO_MANY_FIELDS,
         };
     }
     let modulus = moduli[field];
@@ -192,7 +190,7 @@ fn fault_in(pass: Pass, offset: u64) -> u64
         return value_fault(pass.value, offset);
     }
     if pass.field == 0 {
-        return refusal::FIRST_FIELD_MISSING;
+        return refusals::FIRST_FIELD_MISSING;
     }
     0
 }
@@ -201,10 +199,10 @@ fn value_fault(value: u64, offset: u64) -> u64
     ensures { λ r. ⌜ r ≡ valueFault value offset ⌝ }
 {
     if LARGEST_FIELD < value {
-        return refusal::TOO_LARGE;
+        return refusals::TOO_LARGE;
     }
     if value < offset {
-        return refusal::BELOW_OFFSET;
+        return refusals::FIELD_BELOW_OFFSET;
     }
     0
 }
@@ -259,7 +257,7 @@ pub fn count(moduli: &[u64], offsets: &[u64], pass: Pass) -> CountAnswer
     }
     let sum = in_ticks(moduli, field + 1, sum_with(pass, moduli[field], offset));
     if Layout::LARGEST_P < sum {
-        return CountAnswer::Refused(refusal::TOO_LARGE);
+        return CountAnswer::Refused(refusals::TOO_LARGE);
     }
     CountAnswer::Count(sum)
 }
