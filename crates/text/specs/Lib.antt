@@ -1,0 +1,1 @@
+-- What reading gives, case by case.
