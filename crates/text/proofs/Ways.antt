@@ -22,7 +22,15 @@ use Rattle.rules.specs.Layout.{layoutOk, moduliOf, offsetsOf}
 use Rattle.rules.specs.Partitions.{Partitions, partitionsIn, partitionsOk}
 use Rattle.rules.specs.Text.{isAllowed, fieldsOf, fieldsCount, readText}
 use Rattle.rules.specs.Stamp.{slashIn, frontOk, frontNumber, encodeNamed, encodeFirst, stampAt, readStamp}
-use Rattle.rules.proofs.Accepted.{layout-facts}
+use Rattle.rules.specs.Facts.{LayoutFacts}
+use Rattle.tables.specs.declared.Basis.{Basis}
+use Rattle.tables.specs.declared.Acceptance.{Acceptance}
+use Rattle.tables.specs.declared.Acceptance.the-variants as Accepts
+use Rattle.tables.specs.Accept.{acceptance, basis, acceptedStamps}
+use Rattle.tables.proofs.Uses.{stamps-refused, stamps-facts, stamps-accepted}
+use Rattle.encode.specs.Listed.{Listed}
+use Rattle.encode.proofs.Sums.{listed}
+use Rattle.text.specs.Accepted.{countIn, textCount, stampCount}
 use Rattle.fields.specs.declared.Pass.{Pass}
 use Rattle.fields.specs.declared.Scanned.{Scanned}
 use Rattle.fields.specs.Pass.{fieldCap, begun, scanFrom, total, alone}
@@ -41,16 +49,17 @@ some-taken l n h k = omega (arith, length-take-le n l h)
 pub both-taken : (a b : List ℕ) (n : ℕ) → n ≤ length a → n ≤ length b → length (take n b) ≡ length (take n a)
 both-taken a b n h k = length-take-le n b k ∙ sym (length-take-le n a h)
 
-module _ (ms os s : List ℕ) (w : Scanned) (e : w ≡ scanFrom ms os begun 0 s) where
-  pub text-other : w .at < length s → refused 5 ≡ unless 5 (all isAllowed s) (fieldsCount (clock ms os) (fieldsOf s))
-  unfolding unless
-  text-other h = rw (not-allowed ms os s 0 w e (omega arith) h)
+-- a text from the place i on
+module _ (ms os s : List ℕ) (i : ℕ) (w : Scanned) (e : w ≡ scanFrom ms os begun i (drop i s)) (l : i ≤ length s) where
+  pub count-other : w .at < length s → refused 5 ≡ countIn ms os (drop i s)
+  unfolding countIn unless
+  count-other h = rw (not-allowed ms os s i w e l h)
 
-  pub text-counted : (r : CountAnswer) → length os ≡ length ms → 1 ≤ length ms → length s ≤ w .at → countAnswer r ≡ total ms os (w .pass) → countAnswer r ≡ unless 5 (all isAllowed s) (fieldsCount (clock ms os) (fieldsOf s))
-  unfolding unless
-  text-counted r o n h c =
-      rw (all-allowed ms os s 0 w e (omega arith) h)
-      (c ∙ ap (total ms os) (whole-pass ms os s 0 w e (omega arith) h) ∙ counted ms os o s n)
+  pub count-all : (r : CountAnswer) → length os ≡ length ms → 1 ≤ length ms → length s ≤ w .at → countAnswer r ≡ total ms os (w .pass) → countAnswer r ≡ countIn ms os (drop i s)
+  unfolding countIn unless
+  count-all r o n h c =
+      rw (all-allowed ms os s i w e l h)
+      (c ∙ ap (total ms os) (whole-pass ms os s i w e l h) ∙ counted ms os o (drop i s) n)
 
 -- `/` is no byte of a clock text
 no-slash-byte : (b : ℕ) → isAllowed b ≡ true → eqb b 47 ≡ false
@@ -74,6 +83,11 @@ no-slash : (s : List ℕ) → all isAllowed s ≡ true → slashIn s ≡ none
 no-slash s h = slash-none s (λ i l. no-slash-byte (getD s i 0) (all-at-place s i h l))
 
 -- a number above the number of partitions is refused, however large
+unless-then : (k : ℕ) (t : Bool) (a : Answer ℕ) (f : ℕ → Answer ℕ) → andThen (unless k t a) f ≡ unless k t (andThen a f)
+unfolding andThen unless
+unless-then k true a f = refl
+unless-then k false a f = refl
+
 past : (p : Partitions) (k c : ℕ) → partitionsIn p < k → encodeNamed p k c ≡ refused 10
 unfolding encodeNamed unless
 past p k c l = rw (and-out-second (leb 1 k) (lt-leb k (partitionsIn p) l))
@@ -144,26 +158,24 @@ module _ (ms os : List ℕ) (p : Partitions) (s : List ℕ) (w : Scanned) (e : w
       unfolding stampAt unless
       front-bad t a f = rw (slash-here, front-is, sym a ∙ f)
 
-      module _ (t : Bool) (a : t ≡ alone (w .pass)) (good : t ≡ true) (v : Scanned) (g : v ≡ scanFrom ms os begun (w .at + 1) (drop (w .at + 1) s)) where
-        pub body-bad : v .at < length s → refused 5 ≡ answered
-        unfolding stampAt unless
-        body-bad l = rw (slash-here, and-out-second (frontOk (take (w .at) s)) (not-allowed ms os s (w .at + 1) v g (omega arith) l))
-
+      module _ (t : Bool) (a : t ≡ alone (w .pass)) (good : t ≡ true) where
         number-is : w .pass .value ≡ min (frontNumber (take (w .at) s)) fieldCap
         unfolding frontNumber
-        number-is = ap (λ (q : Pass). q .value) (front-pass ms os s w e) ∙ front-value ms os (take (w .at) s) (sym (front-one ms os (take (w .at) s)) ∙ sym (ap alone (front-pass ms os s w e)) ∙ sym a ∙ good)
+        number-is =
+            ap (λ (q : Pass). q .value) (front-pass ms os s w e)
+            ∙ front-value ms os (take (w .at) s) (sym (front-one ms os (take (w .at) s)) ∙ sym (ap alone (front-pass ms os s w e)) ∙ sym a ∙ good)
 
-        pub stamp-named : (k r : CountAnswer) → length os ≡ length ms → 1 ≤ length ms → partitionsIn p ≤ mostPartitions → length s ≤ v .at →
-            countAnswer k ≡ total ms os (v .pass) →
+        pub stamp-named : (k r : CountAnswer) → partitionsIn p ≤ mostPartitions →
+            countAnswer k ≡ countIn ms os (drop (w .at + 1) s) →
             countAnswer r ≡ andThen (countAnswer k) (encodeNamed p (w .pass .value)) →
             countAnswer r ≡ answered
-        unfolding stampAt unless
-        stamp-named k r o n few l c f =
-            let m = all-allowed ms os s (w .at + 1) v g (omega arith) l in
-            rw (slash-here, front-is, sym a ∙ good, m)
+        unfolding stampAt countIn
+        stamp-named k r few c f =
+            rw (slash-here, front-is, sym a ∙ good)
             (f ∙ ap (λ x. andThen (countAnswer k) (encodeNamed p x)) number-is
             ∙ named-capped p (frontNumber (take (w .at) s)) (countAnswer k) few
-            ∙ ap (λ x. andThen x (encodeNamed p (frontNumber (take (w .at) s)))) (c ∙ ap (total ms os) (whole-pass ms os s (w .at + 1) v g (omega arith) l) ∙ counted ms os o (drop (w .at + 1) s) n))
+            ∙ ap (λ x. andThen x (encodeNamed p (frontNumber (take (w .at) s)))) c
+            ∙ unless-then 5 (all isAllowed (drop (w .at + 1) s)) _ (encodeNamed p (frontNumber (take (w .at) s))))
 
 -- slots after the n-th are not looked at
 same-stamp : (l : Layout) → l .n ≤ length (l .moduli) → (p : Partitions) (s : List ℕ) (o : Option ℕ) → stampAt (clock (moduliOf l) (offsetsOf l)) p s o ≡ stampAt l p s o
@@ -171,46 +183,56 @@ unfolding stampAt
 same-stamp l h p s none = rw (same-count l h (fieldsOf s))
 same-stamp l h p s (some i) = rw (same-count l h (fieldsOf (drop (i + 1) s)))
 
--- the calls: the tables first, then 4, then what the text says
-module _ (l : Layout) (t : Bool) (e : t ≡ layoutOk l) where
-  pub some-fields : not t ≡ false → 1 ≤ l .n
-  some-fields y = layout-facts l (sym e ∙ not-false t y) .fields
+-- 4, then what the text says
+module _ (ms os s : List ℕ) where
+  pub text-long : longestText < length s → refused 4 ≡ textCount ms os s
+  unfolding textCount unless
+  text-long h = rw (lt-leb (length s) longestText h)
 
-  pub few-fields : (xs : List ℕ) → not t ≡ false → length xs ≡ mostFields → l .n ≤ length xs
-  few-fields xs y h = rw h (layout-facts l (sym e ∙ not-false t y) .few-fields)
+  pub text-short : (a : Answer ℕ) → length s ≤ longestText → a ≡ countIn ms os s → a ≡ textCount ms os s
+  unfolding textCount unless
+  text-short a h e = rw (le-leb (length s) longestText h) e
 
-  module _ (s : List ℕ) where
-    pub text-layout : not t ≡ true → refused 1 ≡ readText l s
-    unfolding readText unless
-    text-layout n = rw (← e, not-true t n)
+  module _ (p : Partitions) where
+    pub stamp-long : longestText < length s → refused 4 ≡ stampCount ms os p s
+    unfolding stampCount unless
+    stamp-long h = rw (lt-leb (length s) longestText h)
 
-    module _ (y : not t ≡ false) where
-      pub text-long : longestText < length s → refused 4 ≡ readText l s
-      unfolding readText unless
-      text-long h = rw (← e, not-false t y, lt-leb (length s) longestText h)
+    pub stamp-short : (a : Answer ℕ) → length s ≤ longestText → a ≡ stampAt (clock ms os) p s (slashIn s) → a ≡ stampCount ms os p s
+    unfolding stampCount unless
+    stamp-short a h e = rw (le-leb (length s) longestText h) e
 
-      pub text-read : (a : Answer ℕ) → l .n ≤ length (l .moduli) → length s ≤ longestText → a ≡ unless 5 (all isAllowed s) (fieldsCount (clock (moduliOf l) (offsetsOf l)) (fieldsOf s)) → a ≡ readText l s
-      unfolding readText unless
-      text-read a h k f = rw (← e, not-false t y, le-leb (length s) longestText k) (rw (same-count l h (fieldsOf s)) at f)
+-- the calls: the tables first
+module _ (l : Layout) where
+  pub some-fields : LayoutFacts l → 1 ≤ l .n
+  some-fields f = f .fields
 
-  module _ (p : Partitions) (s : List ℕ) where
-    pub stamp-layout : not t ≡ true → refused 1 ≡ readStamp l p s
-    unfolding readStamp unless
-    stamp-layout n = rw (← e, not-true t n)
+  pub few-fields : (xs : List ℕ) → LayoutFacts l → length xs ≡ mostFields → l .n ≤ length xs
+  few-fields xs f h = rw h (f .few-fields)
 
-    module _ (y : not t ≡ false) where
-      pub stamp-partitions : partitionsOk l p ≡ false → refused 2 ≡ readStamp l p s
-      unfolding readStamp unless
-      stamp-partitions n = rw (← e, not-false t y, n)
+  pub text-refused : (s : List ℕ) → layoutOk l ≡ false → refused 1 ≡ readText l s
+  unfolding readText unless
+  text-refused s n = rw n
 
-      module _ (g : partitionsOk l p ≡ true) where
-        pub stamp-long : longestText < length s → refused 4 ≡ readStamp l p s
-        unfolding readStamp unless
-        stamp-long h = rw (← e, not-false t y, g, lt-leb (length s) longestText h)
+  pub text-accepted : (s : List ℕ) (a : Answer ℕ) → layoutOk l ≡ true → l .n ≤ length (l .moduli) → a ≡ textCount (moduliOf l) (offsetsOf l) s → a ≡ readText l s
+  unfolding readText textCount countIn unless
+  text-accepted s a y h e = rw y (rw (same-count l h (fieldsOf s)) at e)
 
-        pub stamp-read : (a : Answer ℕ) → l .n ≤ length (l .moduli) → length s ≤ longestText → a ≡ stampAt (clock (moduliOf l) (offsetsOf l)) p s (slashIn s) → a ≡ readStamp l p s
-        unfolding readStamp unless
-        stamp-read a h k f = rw (← e, not-false t y, g, le-leb (length s) longestText k) (f ∙ same-stamp l h p s (slashIn s))
+  module _ (p : Partitions) (s : List ℕ) (r : Acceptance) (e : acceptance r ≡ acceptedStamps l p (answer (basis l p))) where
+    pub stamp-refused : (k : ℕ) (a : CountAnswer) → r ≡ Accepts.Refused k → a ≡ Answered.Refused k → countAnswer a ≡ readStamp l p s
+    unfolding readStamp
+    stamp-refused k a h f = rw f (stamps-refused l p r e k _ h)
+
+    module _ (b : Basis) (h : r ≡ Accepts.Accepted b) where
+      pub layout-of : LayoutFacts l
+      layout-of = stamps-facts l p r e b h .layout
+
+      pub listed-of : Listed p
+      listed-of = listed l p (stamps-facts l p r e b h .partitions)
+
+      pub stamp-accepted : (a : Answer ℕ) → l .n ≤ length (l .moduli) → a ≡ stampCount (moduliOf l) (offsetsOf l) p s → a ≡ readStamp l p s
+      unfolding readStamp stampCount
+      stamp-accepted a n f = stamps-accepted l p r e b h a _ (rw (same-stamp l n p s (slashIn s)) at f)
 
 -- a count goes on to its partition, a refusal is passed on
 module _ (k r : CountAnswer) (n : ℕ) (f : ℕ → Answer ℕ) where

@@ -1,1 +1,2 @@
--- What reading gives, case by case.
+-- What reading answers once the tables are accepted.
+pub mod Accepted

@@ -1,14 +1,14 @@
 // Clock text to its count, and a stamp to its encoded count.
 ghost use mathlib.Core.Path.{_≡_};
 ghost use Prim.Native.Nat.{_≤_};
-ghost use lib.ListN.{length, take};
-ghost use Rattle.base.specs.Scans.{all};
-ghost use Rattle.rules.specs.Answer.{countAnswer, unless, andThen};
+ghost use lib.ListN.{length, take, drop};
+ghost use Rattle.rules.specs.Answer.{countAnswer, andThen};
 ghost use Rattle.rules.specs.Partitions.{partitions};
-ghost use Rattle.rules.specs.Text.{isAllowed, fieldsOf, fieldsCount, readText};
+ghost use Rattle.rules.specs.Text.{readText};
 ghost use Rattle.rules.specs.Stamp.{slashIn, encodeFirst, encodeNamed, stampAt, readStamp};
 ghost use Rattle.fields.specs.Clock.{clock};
 ghost use Rattle.encode.specs.Listed.{Listed};
+ghost use Rattle.text.specs.Accepted.{countIn, textCount, stampCount};
 use encode::encode_first;
 use encode::encode_named;
 use fields::count;
@@ -17,6 +17,8 @@ use fields::scan;
 use layouts::limits::LONGEST_TEXT;
 use rules::CountAnswer;
 use rules::Layout;
+use tables::Acceptance;
+use tables::accept_stamps;
 
 // Text without a partition.
 pub fn read_text(layout: Layout, text: &[u8]) -> CountAnswer
@@ -26,9 +28,6 @@ pub fn read_text(layout: Layout, text: &[u8]) -> CountAnswer
     if !measured.ok {
         return CountAnswer::Refused(refusals::LAYOUT);
     }
-    if LONGEST_TEXT < text.len() {
-        return CountAnswer::Refused(refusals::TEXT_TOO_LONG);
-    }
     let n = layout.n;
     text_count(&layout.moduli, &layout.offsets, n, text)
 }
@@ -37,28 +36,41 @@ pub fn read_text(layout: Layout, text: &[u8]) -> CountAnswer
 pub fn read_stamp(layout: Layout, starts: &[u64], ends: &[u64], text: &[u8]) -> CountAnswer
     ensures { λ r. ⌜ countAnswer r ≡ readStamp layout (partitions (now (starts .entry)) (now (ends .entry))) (now (text .entry)) ⌝ }
 {
-    let measured = layouts::measure(layout);
-    if !measured.ok {
-        return CountAnswer::Refused(refusals::LAYOUT);
+    let n = layout.n;
+    match accept_stamps(layout, starts, ends) {
+        Acceptance::Accepted(_) => stamp_count(&layout.moduli, &layout.offsets, n, starts, ends, text),
+        Acceptance::Refused(k) => refused(k),
     }
-    let checked = partitions::check(measured.product, starts, ends);
-    if !checked.ok {
-        return CountAnswer::Refused(refusals::PARTITIONS);
-    }
+}
+
+// Of a clock whose fields are the first `n` slots.
+fn text_count<'a>(moduli: &'a [u64], offsets: &'a [u64], n: usize, text: &[u8]) -> CountAnswer
+    requires { ⌜ (1 ≤ n) × (n ≤ length (now moduli)) × (n ≤ length (now offsets)) ⌝ }
+    ensures { λ r. ⌜ countAnswer r ≡ textCount (take n (now (moduli .entry))) (take n (now (offsets .entry))) (now (text .entry)) ⌝ }
+{
     if LONGEST_TEXT < text.len() {
         return CountAnswer::Refused(refusals::TEXT_TOO_LONG);
     }
-    let n = layout.n;
-    stamp_count(&layout.moduli, &layout.offsets, n, starts, ends, text)
+    count_from(&moduli[..n], &offsets[..n], text, 0)
 }
 
-fn text_count<'a>(moduli: &'a [u64], offsets: &'a [u64], n: usize, text: &[u8]) -> CountAnswer
+fn stamp_count<'a>(moduli: &'a [u64], offsets: &'a [u64], n: usize, starts: &[u64], ends: &[u64], text: &[u8]) -> CountAnswer
     requires { ⌜ (1 ≤ n) × (n ≤ length (now moduli)) × (n ≤ length (now offsets)) ⌝ }
-    ensures { λ r. ⌜ countAnswer r ≡ unless 5 (all isAllowed (now (text .entry))) (fieldsCount (clock (take n (now (moduli .entry))) (take n (now (offsets .entry)))) (fieldsOf (now (text .entry)))) ⌝ }
+    requires { ⌜ Listed (partitions (now starts) (now ends)) ⌝ }
+    ensures { λ r. ⌜ countAnswer r ≡ stampCount (take n (now (moduli .entry))) (take n (now (offsets .entry))) (partitions (now (starts .entry)) (now (ends .entry))) (now (text .entry)) ⌝ }
 {
-    let moduli = &moduli[..n];
-    let offsets = &offsets[..n];
-    let scanned = scan(moduli, offsets, text, 0);
+    if LONGEST_TEXT < text.len() {
+        return CountAnswer::Refused(refusals::TEXT_TOO_LONG);
+    }
+    stamp_in(&moduli[..n], &offsets[..n], starts, ends, text)
+}
+
+// The count of the text from the place `from` on.
+fn count_from(moduli: &[u64], offsets: &[u64], text: &[u8], from: usize) -> CountAnswer
+    requires { ⌜ (1 ≤ length (now moduli)) × (length (now offsets) ≡ length (now moduli)) × (from ≤ length (now text)) ⌝ }
+    ensures { λ r. ⌜ countAnswer r ≡ countIn (now (moduli .entry)) (now (offsets .entry)) (drop from (now (text .entry))) ⌝ }
+{
+    let scanned = scan(moduli, offsets, text, from);
     let at = scanned.at;
     if at < text.len() {
         return CountAnswer::Refused(refusals::BYTE_NOT_ALLOWED);
@@ -67,13 +79,11 @@ fn text_count<'a>(moduli: &'a [u64], offsets: &'a [u64], n: usize, text: &[u8]) 
     count(moduli, offsets, pass)
 }
 
-fn stamp_count<'a>(moduli: &'a [u64], offsets: &'a [u64], n: usize, starts: &[u64], ends: &[u64], text: &[u8]) -> CountAnswer
-    requires { ⌜ (1 ≤ n) × (n ≤ length (now moduli)) × (n ≤ length (now offsets)) ⌝ }
+fn stamp_in(moduli: &[u64], offsets: &[u64], starts: &[u64], ends: &[u64], text: &[u8]) -> CountAnswer
+    requires { ⌜ (1 ≤ length (now moduli)) × (length (now offsets) ≡ length (now moduli)) ⌝ }
     requires { ⌜ Listed (partitions (now starts) (now ends)) ⌝ }
-    ensures { λ r. ⌜ countAnswer r ≡ stampAt (clock (take n (now (moduli .entry))) (take n (now (offsets .entry)))) (partitions (now (starts .entry)) (now (ends .entry))) (now (text .entry)) (slashIn (now (text .entry))) ⌝ }
+    ensures { λ r. ⌜ countAnswer r ≡ stampAt (clock (now (moduli .entry)) (now (offsets .entry))) (partitions (now (starts .entry)) (now (ends .entry))) (now (text .entry)) (slashIn (now (text .entry))) ⌝ }
 {
-    let moduli = &moduli[..n];
-    let offsets = &offsets[..n];
     let front = scan(moduli, offsets, text, 0);
     let at = front.at;
     let pass = front.pass;
@@ -87,13 +97,7 @@ fn stamp_count<'a>(moduli: &'a [u64], offsets: &'a [u64], n: usize, starts: &[u6
         return CountAnswer::Refused(refusals::BYTE_NOT_ALLOWED);
     }
     let number = pass.value;
-    let body = scan(moduli, offsets, text, at + 1);
-    let end = body.at;
-    if end < text.len() {
-        return CountAnswer::Refused(refusals::BYTE_NOT_ALLOWED);
-    }
-    let rest = body.pass;
-    then_named(starts, ends, number, count(moduli, offsets, rest))
+    then_named(starts, ends, number, count_from(moduli, offsets, text, at + 1))
 }
 
 fn then_first(starts: &[u64], ends: &[u64], counted: CountAnswer) -> CountAnswer

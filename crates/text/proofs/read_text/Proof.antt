@@ -1,4 +1,6 @@
-use Rattle.text.proofs.Ways.{some-fields, few-fields, text-layout, text-long, text-read}
+use borrow.Author.Tests.{not-true, not-false}
+use Rattle.layouts.proofs.Uses.{measured-bad, measured-good, measured-facts}
+use Rattle.text.proofs.Ways.{some-fields, few-fields, text-refused, text-accepted}
 use borrow.Author.Needs.{needs}
 use Rattle.text.proofs.read_text.Statement.{statement}
 use Rattle.text.proofs.read_text.Tie as tie
@@ -7,26 +9,21 @@ use Rattle.text.proofs.read_text.Lts as lts
 use Rattle.layouts.proofs.measure.Reads as measure-reads
 use Rattle.text.proofs.text_count.Reads as text-count-reads
 
--- src/lib.rt:25:9
+-- src/lib.rt:27:9
 measure-requires : tie.Need-measure-requires
 measure-requires c κs = search needs
 
--- src/lib.rt:27:9
+-- src/lib.rt:29:9
 returns : tie.Need-returns
-returns c = search (text-layout, needs)
+returns c = search (text-refused, measured-bad, not-true, needs)
 
--- src/lib.rt:30:9
-returns-2 : tie.Need-returns-2
-returns-2 c = search (text-long, needs)
-
--- src/lib.rt:33:5
+-- src/lib.rt:32:5
 text-count-requires : tie.Need-text-count-requires
-text-count-requires c κs = (search (some-fields, needs), search (few-fields, needs), search (few-fields, needs))
+text-count-requires c κs = (search (some-fields, measured-facts, not-false, needs), search (few-fields, measured-facts, not-false, needs), search (few-fields, measured-facts, not-false, needs))
 
--- src/lib.rt:22:1
-returns-3 : tie.Need-returns-3
-returns-3 c = search (text-read, few-fields, needs)
+-- src/lib.rt:24:1
+returns-2 : tie.Need-returns-2
+returns-2 c = search (text-accepted, few-fields, measured-facts, measured-good, not-false, needs)
 
 pub read-text-spec : {M : Type 1} → statement M
-read-text-spec =
-    tie.close (tie.spec measure-requires returns returns-2 text-count-requires returns-3)
+read-text-spec = tie.close (tie.spec measure-requires returns text-count-requires returns-2)

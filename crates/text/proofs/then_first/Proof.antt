@@ -7,27 +7,27 @@ use Rattle.text.proofs.then_first.Lts as lts
 use Rattle.encode.proofs.encode_first.Reads as encode-first-reads
 use Rattle.text.proofs.refused.Reads as refused-reads
 
--- src/lib.rt:104:28
+-- src/lib.rt:108:28
 enum-known-counted : tie.Need-enum-known-counted
 enum-known-counted c = search needs
 
--- src/lib.rt:104:34
+-- src/lib.rt:108:34
 encode-first-requires : tie.Need-encode-first-requires
 encode-first-requires c κs = search needs
 
--- src/lib.rt:105:30
+-- src/lib.rt:109:30
 enum-known-counted-2 : tie.Need-enum-known-counted-2
 enum-known-counted-2 c = search needs
 
--- src/lib.rt:105:36
+-- src/lib.rt:109:36
 refused-requires : tie.Need-refused-requires
 refused-requires c κs = search needs
 
--- src/lib.rt:99:1
+-- src/lib.rt:103:1
 returns : tie.Need-returns
 returns c = search (then-count, needs)
 
--- src/lib.rt:99:1
+-- src/lib.rt:103:1
 returns-2 : tie.Need-returns-2
 returns-2 c = search (then-refused, needs)
 

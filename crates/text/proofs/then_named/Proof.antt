@@ -7,27 +7,27 @@ use Rattle.text.proofs.then_named.Lts as lts
 use Rattle.encode.proofs.encode_named.Reads as encode-named-reads
 use Rattle.text.proofs.refused.Reads as refused-reads
 
--- src/lib.rt:114:28
+-- src/lib.rt:118:28
 enum-known-counted : tie.Need-enum-known-counted
 enum-known-counted c = search needs
 
--- src/lib.rt:114:34
+-- src/lib.rt:118:34
 encode-named-requires : tie.Need-encode-named-requires
 encode-named-requires c κs = search needs
 
--- src/lib.rt:115:30
+-- src/lib.rt:119:30
 enum-known-counted-2 : tie.Need-enum-known-counted-2
 enum-known-counted-2 c = search needs
 
--- src/lib.rt:115:36
+-- src/lib.rt:119:36
 refused-requires : tie.Need-refused-requires
 refused-requires c κs = search needs
 
--- src/lib.rt:109:1
+-- src/lib.rt:113:1
 returns : tie.Need-returns
 returns c = search (then-count, needs)
 
--- src/lib.rt:109:1
+-- src/lib.rt:113:1
 returns-2 : tie.Need-returns-2
 returns-2 c = search (then-refused, needs)
 
