@@ -1,0 +1,2 @@
+-- The laws of running sums of lengths, and the ways out of a search.
+pub mod Sums

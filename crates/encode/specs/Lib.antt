@@ -1,0 +1,2 @@
+-- The facts of partitions that their encoded counts go by.
+pub mod Listed

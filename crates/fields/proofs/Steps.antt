@@ -1,0 +1,118 @@
+-- The steps of the pass as the code takes them: one law for each way out.
+use Prim.Native.Nat.{ℕ, _+_, _-_, _*_, _≤_, _<_, min}
+use mathlib.Core.Path.{_≡_, refl, sym, ap, _∙_}
+use mathlib.Core.Bool.{Bool, true, false, cond, _&&_, _||_}
+use mathlib.Core.List.{List, [], _∷_}
+use lib.Dec.{leb, eqb}
+use lib.ListN.{length, getD, drop, drop-of-length-le}
+use borrow.Author.Tests.{le-leb, lt-leb, leb-true, leb-false, eq-eqb, ne-eqb}
+use native.Mathlib.Omega.{arith}
+use Rattle.base.proofs.Lists.{drop-next}
+use Rattle.base.proofs.Tests.{by-test, and-first, or-first, or-second, or-neither}
+use Rattle.base.specs.Scans.{product}
+use Rattle.rules.specs.Limits.{largestCount}
+use Rattle.rules.specs.Answer.{answer, refused, unless}
+use Rattle.rules.specs.Text.{isDigit, isMark, isBlank, isAllowed}
+use Rattle.fields.specs.declared.Pass.{Pass}
+use Rattle.fields.specs.declared.Scanned.{Scanned}
+use Rattle.fields.specs.Pass.{sumCap, sumWith, faultWith, digitIn, withBlank, surplus, next, withDigit, step, scanFrom, sumIn, total}
+
+pub digit-at-least : (b : ℕ) (t : Bool) → t ≡ isDigit b → t ≡ true → 48 ≤ b
+digit-at-least b t e h = leb-true 48 b (and-first (leb 48 b) (leb b 57) (sym e ∙ h))
+
+pub last-mark : (b : ℕ) → (b ≡ 46 → ⊥) → (b ≡ 58 → ⊥) → (b ≡ 44 → ⊥) → eqb b 45 ≡ isMark b
+last-mark b x y z = rw (ne-eqb b 46 x, ne-eqb b 58 y, ne-eqb b 44 z)
+
+module _ {A : Type 0} {b : Bool} (x y : A) where
+  pub cond-yes : b ≡ true → cond b x y ≡ x
+  cond-yes t = rw t
+
+  pub cond-no : b ≡ false → cond b x y ≡ y
+  cond-no f = rw f
+
+module _ (ms os : List ℕ) where
+  pub next-none : (p : Pass) → length ms ≤ p .field + 1 → surplus (p .field) ≡ next ms os p
+  unfolding next
+  next-none p h = rw (le-leb (length ms) (p .field + 1) h)
+
+  pub next-one : (p : Pass) (a b : ℕ) → p .field + 1 < length ms → a ≡ sumWith p (getD ms (p .field) 0) (getD os (p .field) 0) → b ≡ faultWith p (getD os (p .field) 0) → _≡_ {A = Pass} (record { field = p .field + 1; present = false; gap = false; value = 0; sum = a; fault = b }) (next ms os p)
+  unfolding next
+  next-one p a b h e f = rw (e, f, lt-leb (length ms) (p .field + 1) h)
+
+  pub after-gap : (p q : Pass) (d : ℕ) → p .gap ≡ true → q ≡ next ms os p → digitIn q d ≡ withDigit ms os p d
+  unfolding withDigit
+  after-gap p q d g e = ap (λ (x : Pass). digitIn x d) (e ∙ sym (cond-yes _ _ g))
+
+  pub no-gap : (p : Pass) (d : ℕ) → p .gap ≡ false → digitIn p d ≡ withDigit ms os p d
+  unfolding withDigit
+  no-gap p d g = ap (λ (x : Pass). digitIn x d) (sym (cond-no _ _ g))
+
+  -- the field at hand is one of the clock's
+  pub next-field : (p q : Pass) → p .field < length ms → q ≡ next ms os p → q .field < length ms
+  unfolding next
+  next-field p q h e = rw e (by-test (leb (length ms) (p .field + 1)) (λ t. rw t h) (λ f. rw f (leb-false _ _ f)))
+
+  pub digit-field : (p q : Pass) (d : ℕ) → p .field < length ms → q ≡ withDigit ms os p d → q .field < length ms
+  unfolding withDigit
+  digit-field p q d h e = rw e (either (p .gap))
+    where
+      either : (g : Bool) → (cond g (next ms os p) p) .field < length ms
+      either true = next-field p (next ms os p) h refl
+      either false = h
+
+  pub blank-field : (p q : Pass) → p .field < length ms → q ≡ withBlank p → q .field < length ms
+  blank-field p q h e = rw e h
+
+  -- the loop's turns, and its ways out
+  module _ (s : List ℕ) (p : Pass) (i : ℕ) (h : i < length s) (w : Scanned) (e : w ≡ scanFrom ms os p i (drop i s)) where
+    turn : (q : Pass) → isAllowed (getD s i 0) ≡ true → q ≡ step ms os p (getD s i 0) → w ≡ scanFrom ms os q (i + 1) (drop (i + 1) s)
+    unfolding scanFrom
+    turn q a f = rw f (rw (drop-next s i 0 h, a) at e)
+
+    module _ (t : Bool) (d : t ≡ isDigit (getD s i 0)) where
+      pub turn-digit : (q : Pass) → t ≡ true → q ≡ withDigit ms os p (getD s i 0 - 48) → w ≡ scanFrom ms os q (i + 1) (drop (i + 1) s)
+      unfolding step
+      turn-digit q y f = turn q (rw (sym d ∙ y)) (f ∙ sym (cond-yes _ _ (sym d ∙ y)))
+
+      module _ (n : t ≡ false) (u : Bool) (m : u ≡ isMark (getD s i 0)) where
+        pub turn-mark : (q : Pass) → u ≡ true → q ≡ next ms os p → w ≡ scanFrom ms os q (i + 1) (drop (i + 1) s)
+        unfolding step
+        turn-mark q y f =
+            turn q (or-second (isDigit (getD s i 0) || isBlank (getD s i 0)) (sym m ∙ y)) (f ∙ sym (cond-no _ _ (sym d ∙ n) ∙ cond-yes _ _ (sym m ∙ y)))
+
+        pub turn-blank : (q : Pass) → u ≡ false → getD s i 0 ≡ 32 → q ≡ withBlank p → w ≡ scanFrom ms os q (i + 1) (drop (i + 1) s)
+        unfolding step
+        turn-blank q y b f =
+            turn q (or-first (isMark (getD s i 0)) (or-second (isDigit (getD s i 0)) (eq-eqb (getD s i 0) 32 b)))
+            (f ∙ sym (cond-no _ _ (sym d ∙ n) ∙ cond-no _ _ (sym m ∙ y)))
+
+        pub stop : u ≡ false → (getD s i 0 ≡ 32 → ⊥) → _≡_ {A = Scanned} (record { at = i; pass = p }) w
+        unfolding scanFrom
+        stop y b = sym (rw (drop-next s i 0 h, or-neither (or-neither (sym d ∙ n) (ne-eqb (getD s i 0) 32 b)) (sym m ∙ y)) at e)
+
+  pub ended : (s : List ℕ) (p : Pass) (i : ℕ) (w : Scanned) → length s ≤ i → w ≡ scanFrom ms os p i (drop i s) → _≡_ {A = Scanned} (record { at = i; pass = p }) w
+  unfolding scanFrom
+  ended s p i w h e = sym (rw (drop-of-length-le s h) at e)
+
+-- the ways out at the end
+pub sum-capped : (p : Pass) (m o a : ℕ) → a ≡ sumWith p m o → a ≤ sumCap
+unfolding sumWith
+sum-capped p m o a e = omega arith
+
+module _ (ms os : List ℕ) (p : Pass) (k : ℕ) (e : k ≡ faultWith p (getD os (p .field) 0)) where
+  pub total-fault : (k ≡ 0 → ⊥) → refused k ≡ total ms os p
+  unfolding total unless
+  total-fault n = rw (← e, ne-eqb k 0 n)
+
+  module _ (z : k ≡ 0) (a t : ℕ) (f : a ≡ sumWith p (getD ms (p .field) 0) (getD os (p .field) 0)) (g : t ≡ min (a * product (drop (p .field + 1) ms)) sumCap) where
+    sum-is : t ≡ sumIn ms os p
+    unfolding sumIn
+    sum-is = rw f at g
+
+    pub total-large : largestCount < t → refused 9 ≡ total ms os p
+    unfolding total unless
+    total-large h = rw (← e, z, ← sum-is, lt-leb t largestCount h)
+
+    pub total-count : t ≤ largestCount → answer t ≡ total ms os p
+    unfolding total unless
+    total-count h = rw (← e, z, ← sum-is, le-leb t largestCount h)

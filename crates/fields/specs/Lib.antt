@@ -1,0 +1,3 @@
+-- The pass over clock text, number by number as the code keeps it.
+pub mod Pass
+pub mod Clock

@@ -1,0 +1,277 @@
+// Clock text in one pass over its bytes: digits and marks to fields, fields to the count.
+ghost use mathlib.Core.Path.{_≡_};
+ghost use Prim.Native.Nat.{_+_, _*_, _-_, _≤_, _<_, min};
+ghost use lib.ListN.{length, getD, drop};
+ghost use Rattle.base.specs.Scans.{product};
+ghost use Rattle.rules.specs.Text.{isDigit, isBlank, isMark, isAllowed};
+ghost use Rattle.rules.specs.Answer.{countAnswer};
+ghost use Rattle.fields.specs.Pass.{fieldCap, sumCap, begun, valueFault, faultIn, faultWith, ticksIn, sumWith, surplus, next, digitIn, withDigit, withBlank, alone, scanFrom, sumIn, total};
+use rules::CountAnswer;
+use rules::Layout;
+
+const LARGEST_FIELD: u64 = Layout::LARGEST_P + Layout::LARGEST_OFFSET;
+const FIELD_CAP: u64 = LARGEST_FIELD + 1;
+const SUM_CAP: u64 = Layout::LARGEST_P + 1;
+
+// What is known after some bytes of a text.
+pub struct Pass {
+    // The field at hand, from 0; whether it has a digit; whether blanks follow its last digit.
+    pub field: usize,
+    pub present: bool,
+    pub gap: bool,
+    // Its value so far, FIELD_CAP for any number as large or larger.
+    pub value: u64,
+    // The ticks of the fields before it, as ticks of the last of them; SUM_CAP as above.
+    pub sum: u64,
+    // The first refusal of the fields before it, 0 for none.
+    pub fault: u64,
+}
+
+// A pass up to the place `at`, where the text ends or has a byte that is not allowed.
+pub struct Scanned {
+    pub at: usize,
+    pub pass: Pass,
+}
+
+// The pass from the place `from` on.
+pub fn scan(moduli: &[u64], offsets: &[u64], text: &[u8], from: usize) -> Scanned
+    requires { ⌜ (1 ≤ length (now moduli)) × (length (now offsets) ≡ length (now moduli)) × (from ≤ length (now text)) ⌝ }
+    ensures { λ r. ⌜ r ≡ scanFrom (now (moduli .entry)) (now (offsets .entry)) begun from (drop from (now (text .entry))) ⌝ }
+    ensures { λ r. ⌜ r .pass .field < length (now (moduli .entry)) ⌝ }
+{
+    let mut pass = Pass {
+        field: 0,
+        present: false,
+        gap: false,
+        value: 0,
+        sum: 0,
+        fault: 0,
+    };
+    let mut at = from;
+    while at < text.len() {
+        let byte = text[at];
+        if is_digit(byte) {
+            pass = with_digit(moduli, offsets, pass, byte - b'0');
+            at += 1;
+        } else if is_mark(byte) {
+            pass = next_field(moduli, offsets, pass);
+            at += 1;
+        } else if byte == b' ' {
+            pass = with_blank(pass);
+            at += 1;
+        } else {
+            return Scanned { at, pass };
+        }
+    }
+    Scanned { at, pass }
+}
+
+// After a gap a digit stands in the next field.
+fn with_digit(moduli: &[u64], offsets: &[u64], pass: Pass, d: u8) -> Pass
+    requires { ⌜ (pass .field < length (now moduli)) × (length (now offsets) ≡ length (now moduli)) ⌝ }
+    ensures { λ r. ⌜ r ≡ withDigit (now (moduli .entry)) (now (offsets .entry)) pass d ⌝ }
+{
+    if pass.gap {
+        return digit_in(next_field(moduli, offsets, pass), d);
+    }
+    digit_in(pass, d)
+}
+
+fn digit_in(pass: Pass, d: u8) -> Pass
+    ensures { λ r. ⌜ r ≡ digitIn pass d ⌝ }
+{
+    Pass {
+        field: pass.field,
+        present: true,
+        gap: false,
+        value: next_value(pass.value, d),
+        sum: pass.sum,
+        fault: pass.fault,
+    }
+}
+
+// Blanks open a gap only after a digit.
+fn with_blank(pass: Pass) -> Pass
+    ensures { λ r. ⌜ r ≡ withBlank pass ⌝ }
+{
+    Pass {
+        field: pass.field,
+        present: pass.present,
+        gap: pass.present,
+        value: pass.value,
+        sum: pass.sum,
+        fault: pass.fault,
+    }
+}
+
+fn next_value(value: u64, d: u8) -> u64
+    ensures { λ r. ⌜ r ≡ min (value * 10 + d) fieldCap ⌝ }
+{
+    if FIELD_CAP <= value {
+        return FIELD_CAP;
+    }
+    let next = value * 10 + widened(d);
+    if FIELD_CAP < next {
+        return FIELD_CAP;
+    }
+    next
+}
+
+fn widened(x: u8) -> u64
+    ensures { λ r. ⌜ r ≡ x ⌝ }
+{
+    x as u64
+}
+
+fn next_field(moduli: &[u64], offsets: &[u64], pass: Pass) -> Pass
+    requires { ⌜ (pass .field < length (now moduli)) × (length (now offsets) ≡ length (now moduli)) ⌝ }
+    ensures { λ r. ⌜ r ≡ next (now (moduli .entry)) (now (offsets .entry)) pass ⌝ }
+{
+    let field = pass.field;
+    if moduli.len() <= field + 1 {
+        return Pass {
+            field,
+            present: false,
+            gap: false,
+            value: 0,
+            sum: 0,
+            fault: refusals::TOO_MANY_FIELDS,
+        };
+    }
+    let modulus = moduli[field];
+    let offset = offsets[field];
+    Pass {
+        field: field + 1,
+        present: false,
+        gap: false,
+        value: 0,
+        sum: sum_with(pass, modulus, offset),
+        fault: fault_with(pass, offset),
+    }
+}
+
+fn sum_with(pass: Pass, modulus: u64, offset: u64) -> u64
+    ensures { λ r. ⌜ r ≡ sumWith pass modulus offset ⌝ }
+{
+    wide::mul_add_capped(pass.sum, modulus, ticks_in(pass, offset), SUM_CAP)
+}
+
+fn ticks_in(pass: Pass, offset: u64) -> u64
+    ensures { λ r. ⌜ r ≡ ticksIn pass offset ⌝ }
+{
+    if pass.present {
+        return less(pass.value, offset);
+    }
+    0
+}
+
+fn less(a: u64, b: u64) -> u64
+    ensures { λ r. ⌜ r ≡ a - b ⌝ }
+{
+    if a < b {
+        return 0;
+    }
+    a - b
+}
+
+fn fault_with(pass: Pass, offset: u64) -> u64
+    ensures { λ r. ⌜ r ≡ faultWith pass offset ⌝ }
+{
+    if pass.fault != 0 {
+        return pass.fault;
+    }
+    fault_in(pass, offset)
+}
+
+fn fault_in(pass: Pass, offset: u64) -> u64
+    ensures { λ r. ⌜ r ≡ faultIn pass offset ⌝ }
+{
+    if pass.present {
+        return value_fault(pass.value, offset);
+    }
+    if pass.field == 0 {
+        return refusals::FIRST_FIELD_MISSING;
+    }
+    0
+}
+
+fn value_fault(value: u64, offset: u64) -> u64
+    ensures { λ r. ⌜ r ≡ valueFault value offset ⌝ }
+{
+    if LARGEST_FIELD < value {
+        return refusals::TOO_LARGE;
+    }
+    if value < offset {
+        return refusals::FIELD_BELOW_OFFSET;
+    }
+    0
+}
+
+fn is_digit(byte: u8) -> bool
+    ensures { λ r. ⌜ r ≡ isDigit byte ⌝ }
+{
+    if byte < b'0' {
+        return false;
+    }
+    byte <= b'9'
+}
+
+fn is_mark(byte: u8) -> bool
+    ensures { λ r. ⌜ r ≡ isMark byte ⌝ }
+{
+    if byte == b'.' {
+        return true;
+    }
+    if byte == b':' {
+        return true;
+    }
+    if byte == b',' {
+        return true;
+    }
+    byte == b'-'
+}
+
+// Whether the pass met one field, with digits in it.
+pub fn is_number(pass: Pass) -> bool
+    ensures { λ r. ⌜ r ≡ alone pass ⌝ }
+{
+    if pass.field != 0 {
+        return false;
+    }
+    if pass.fault != 0 {
+        return false;
+    }
+    pass.present
+}
+
+// The count of a pass that reached the end of the text.
+pub fn count(moduli: &[u64], offsets: &[u64], pass: Pass) -> CountAnswer
+    requires { ⌜ (pass .field < length (now moduli)) × (length (now offsets) ≡ length (now moduli)) ⌝ }
+    ensures { λ r. ⌜ countAnswer r ≡ total (now (moduli .entry)) (now (offsets .entry)) pass ⌝ }
+{
+    let field = pass.field;
+    let offset = offsets[field];
+    let fault = fault_with(pass, offset);
+    if fault != 0 {
+        return CountAnswer::Refused(fault);
+    }
+    let sum = in_ticks(moduli, field + 1, sum_with(pass, moduli[field], offset));
+    if Layout::LARGEST_P < sum {
+        return CountAnswer::Refused(refusals::TOO_LARGE);
+    }
+    CountAnswer::Count(sum)
+}
+
+// `sum` times the moduli from the field `from` on.
+fn in_ticks(moduli: &[u64], from: usize, sum: u64) -> u64
+    requires { ⌜ (from ≤ length (now moduli)) × (sum ≤ sumCap) ⌝ }
+    ensures { λ r. ⌜ r ≡ min (sum * product (drop from (now (moduli .entry)))) sumCap ⌝ }
+{
+    let mut ticks = sum;
+    let mut i = from;
+    while i < moduli.len() {
+        ticks = wide::mul_capped(ticks, moduli[i], SUM_CAP);
+        i += 1;
+    }
+    ticks
+}

@@ -1,0 +1,25 @@
+-- What a caller has of `measure`: one law for each thing that it reads off the answer.
+use mathlib.Core.Path.{_≡_, sym, _∙_}
+use mathlib.Core.Bool.{true, false}
+use Rattle.rules.specs.declared.Layout.{Layout}
+use Rattle.rules.specs.Layout.{layoutOk, productOf, msfOf}
+use Rattle.rules.specs.Facts.{LayoutFacts}
+use Rattle.rules.proofs.Accepted.{layout-facts}
+use Rattle.layouts.specs.declared.Measured.{Measured}
+use Rattle.layouts.specs.Measure.{MeasureOf}
+
+module _ (l : Layout) (r : Measured) (w : MeasureOf l r) where
+  pub measured-bad : r .ok ≡ false → layoutOk l ≡ false
+  measured-bad e = sym (w .same) ∙ e
+
+  pub measured-good : r .ok ≡ true → layoutOk l ≡ true
+  measured-good e = sym (w .same) ∙ e
+
+  pub measured-facts : r .ok ≡ true → LayoutFacts l
+  measured-facts e = layout-facts l (measured-good e)
+
+  pub measured-product : r .ok ≡ true → r .product ≡ productOf l
+  measured-product e = w .product e
+
+  pub measured-msf : r .ok ≡ true → r .msf ≡ msfOf l
+  measured-msf e = w .msf e

@@ -1,0 +1,116 @@
+-- What each way out of `measure` says of the layout.
+use Prim.Native.Nat.{ℕ, zero, suc, _+_, _*_, _≤_, _<_, min}
+use mathlib.Core.Path.{_≡_, refl, sym, _∙_}
+use mathlib.Core.Bool.{Bool, true, false, not}
+use mathlib.Core.List.{List, [], _∷_, map}
+use native.Mathlib.Nat.{zero-mul, mul-zero, mul-le-mul}
+use native.Mathlib.Omega.{arith}
+use lib.Dec.{leb}
+use lib.ListN.{length, getD, take, drop}
+use borrow.Author.Tests.{leb-true, le-leb, not-true, not-false}
+use Rattle.base.specs.Scans.{all, product}
+use Rattle.base.proofs.Tests.{by-test, not-both, and-both, and-first, and-second}
+use Rattle.rules.specs.declared.Layout.{Layout}
+use Rattle.rules.specs.Limits.{mostFields, largestOffset, largestP, largestMSF, lastDelimiter}
+use Rattle.rules.specs.Layout.{moduliOf, offsetsOf, productOf, msfOf, layoutOk}
+use Rattle.rules.specs.Facts.{LayoutFacts}
+use Rattle.rules.proofs.Accepted.{layout-facts, layout-accepted}
+use Rattle.layouts.specs.declared.Measured.{Measured}
+use Rattle.layouts.specs.Measure.{MeasureOf}
+use Rattle.layouts.proofs.Slots.{slots-within, product-of-slots}
+
+-- "Each has a modulus of at least 1" exactly where the product is at least 1.
+pub product-positive : (s : List ℕ) → all (λ m. leb 1 m) s ≡ true → 1 ≤ product s
+unfolding all product
+product-positive [] h = omega arith
+product-positive (x ∷ s) h =
+    mul-le-mul (leb-true 1 x (and-first (leb 1 x) _ h)) (product-positive s (and-second (leb 1 x) _ h))
+
+factors : (a b : ℕ) → 1 ≤ a * b → (1 ≤ a) × (1 ≤ b)
+factors zero b h = absurd (omega (arith, zero-mul b))
+factors (suc a) zero h = absurd (omega (arith, mul-zero (suc a)))
+factors (suc a) (suc b) h = (omega arith, omega arith)
+
+pub positive-factors : (s : List ℕ) → 1 ≤ product s → all (λ m. leb 1 m) s ≡ true
+unfolding all product
+positive-factors [] h = refl
+positive-factors (x ∷ s) h = and-both (le-leb 1 x (factors x (product s) h .0)) (positive-factors s (factors x (product s) h .1))
+
+-- a capped product that did not reach its cap is the product
+uncapped : (p m limit : ℕ) → m ≡ min p (limit + 1) → m ≤ limit → m ≡ p
+uncapped p m limit e h = omega arith
+
+module _ (l : Layout) where
+  positive-moduli : 1 ≤ productOf l → all (λ m. leb 1 m) (moduliOf l) ≡ true
+  unfolding productOf
+  positive-moduli h = positive-factors (moduliOf l) h
+
+  module _ (r : Measured) (no : r .ok ≡ false) where
+    refused-by : (LayoutFacts l → ⊥) → MeasureOf l r
+    refused-by f =
+        record {
+          same = no ∙ sym (by-test (layoutOk l) (λ t. absurd (f (layout-facts l t))) (λ e. e));
+          product = λ y. absurd (not-both y no);
+          msf = λ y. absurd (not-both y no);
+        }
+
+    pub no-fields : l .n < 1 → MeasureOf l r
+    no-fields h = refused-by (λ f. omega (arith, f .fields))
+
+    pub many-fields : mostFields < l .n → MeasureOf l r
+    many-fields h = refused-by (λ f. omega (arith, f .few-fields))
+
+    pub low-delimiter : l .delimiter < 1 → MeasureOf l r
+    low-delimiter h = refused-by (λ f. omega (arith, f .delimiter-low))
+
+    pub high-delimiter : lastDelimiter < l .delimiter → MeasureOf l r
+    high-delimiter h = refused-by (λ f. omega (arith, f .delimiter-high))
+
+    pub large-offset : {b : Bool} → b ≡ all (λ o. leb o largestOffset) (take (l .n) (l .offsets)) → not b ≡ true → MeasureOf l r
+    large-offset {b} e h = refused-by (λ f. not-both (e ∙ f .offsets) (not-true b h))
+
+  -- The first product: m is MSF unless that is above its limit.
+  module _ (m : ℕ) (e : m ≡ min (product (drop 1 (take (l .n) (l .moduli)))) (largestMSF + 1)) where
+    msf-capped : m ≡ min (msfOf l) (largestMSF + 1)
+    unfolding msfOf
+    msf-capped = e
+
+    pub large-msf : (r : Measured) → r .ok ≡ false → largestMSF < m → MeasureOf l r
+    large-msf r b h = refused-by r b (λ f. omega (arith, f .msf, msf-capped))
+
+    -- The second: p is P, the first modulus times MSF, unless that is above its limit.
+    module _ (small : m ≤ largestMSF) (p : ℕ) (long : length (map (λ (v : ℕ). v) (l .moduli)) ≡ mostFields) (some : 1 ≤ l .n) (few : l .n ≤ mostFields) (q : p ≡ min (getD (l .moduli) 0 0 * m) (largestP + 1)) where
+      msf-is : m ≡ msfOf l
+      msf-is = uncapped (msfOf l) m largestMSF msf-capped small
+
+      first-times : productOf l ≡ getD (l .moduli) 0 0 * msfOf l
+      unfolding productOf msfOf
+      first-times = product-of-slots (l .moduli) (l .n) some (slots-within (l .moduli) (l .n) mostFields long few)
+
+      product-capped : p ≡ min (productOf l) (largestP + 1)
+      product-capped = rw (first-times, ← msf-is) q
+
+      pub large-product : (r : Measured) → r .ok ≡ false → largestP < p → MeasureOf l r
+      large-product r b h = refused-by r b (λ f. omega (arith, f .product, product-capped))
+
+      pub zero-product : (r : Measured) → r .ok ≡ false → p < 1 → MeasureOf l r
+      unfolding productOf
+      zero-product r b h = refused-by r b (λ f. omega (arith, product-positive (moduliOf l) (f .moduli), product-capped))
+
+      pub measured : {b : Bool} → 1 ≤ l .delimiter → l .delimiter ≤ lastDelimiter → b ≡ all (λ o. leb o largestOffset) (take (l .n) (l .offsets)) → not b ≡ false → p ≤ largestP → 1 ≤ p → MeasureOf l (record { ok = true; product = p; msf = m })
+      measured {b} low high o t bound positive =
+          let same = uncapped (productOf l) p largestP product-capped bound in
+          record {
+            same = sym (layout-accepted l (record {
+              fields = some;
+              few-fields = few;
+              moduli = positive-moduli (rw same at positive);
+              offsets = sym o ∙ not-false b t;
+              product = rw same at bound;
+              msf = rw msf-is at small;
+              delimiter-low = low;
+              delimiter-high = high;
+            }));
+            product = λ _. same;
+            msf = λ _. msf-is;
+          }

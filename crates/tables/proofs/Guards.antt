@@ -1,0 +1,28 @@
+-- A guard `unless k t` that gave an answer, or a refusal, whatever follows it.
+use Prim.Native.Nat.{ℕ}
+use mathlib.Core.Path.{_≡_, refl, sym, _∙_}
+use mathlib.Core.Bool.{Bool, true, false}
+use Rattle.rules.specs.Answer.{Answer, answer, refused, unless}
+
+module _ {A : Type 0} where
+  pub answered-test : (k : ℕ) (t : Bool) (x : Answer A) (a : A) → unless k t x ≡ answer a → t ≡ true
+  unfolding unless
+  answered-test k true x a e = refl
+  answered-test k false x a e = cc
+
+  pub answered-rest : (k : ℕ) (t : Bool) (x : Answer A) (a : A) → unless k t x ≡ answer a → x ≡ answer a
+  unfolding unless
+  answered-rest k true x a e = e
+  answered-rest k false x a e = cc
+
+  pub passed : (k : ℕ) (t : Bool) (x y : Answer A) → t ≡ true → y ≡ x → y ≡ unless k t x
+  unfolding unless
+  passed k t x y h e = rw h e
+
+  pub refused-same : {B : Type 0} (k j : ℕ) (t : Bool) (x : Answer A) (y : Answer B) → unless j t x ≡ refused k → (x ≡ refused k → refused k ≡ y) → refused k ≡ unless j t y
+  unfolding unless
+  refused-same k j true x y e f = f e
+  refused-same {B = B} k j false x y e f = same e
+    where
+      same : _≡_ {A = Answer A} (refused j) (refused k) → _≡_ {A = Answer B} (refused k) (refused j)
+      same h = let n : j ≡ k = cc in rw n

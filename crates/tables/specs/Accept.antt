@@ -1,0 +1,31 @@
+-- What accepting tables answers, and the named facts of what it accepts.
+use mathlib.Core.Path.{_≡_}
+use Rattle.rules.specs.declared.Layout.{Layout}
+use Rattle.rules.specs.Answer.{Answer, answer, refused, unless}
+use Rattle.rules.specs.Layout.{layoutOk, productOf}
+use Rattle.rules.specs.Partitions.{Partitions, partitionsOk, totalOf}
+use Rattle.rules.specs.Segments.{unitOf}
+use Rattle.rules.specs.Facts.{LayoutFacts, PartitionsFacts}
+use Rattle.tables.specs.declared.Basis.{Basis}
+use Rattle.tables.specs.declared.Acceptance.{Acceptance}
+use Rattle.tables.specs.declared.Acceptance.the-variants.{Accepted, Refused}
+
+-- the numbers of a basis
+abbrev pub basis : Layout → Partitions → Basis
+basis l p = record { product = productOf l; unit = unitOf l; total = totalOf p }
+
+abbrev pub acceptance : Acceptance → Answer Basis
+acceptance (Accepted b) = answer b
+acceptance (Refused k) = refused k
+
+-- "1, 2": layout and partitions accepted, and then what follows
+unfoldable pub acceptedStamps : {A : Type 0} → Layout → Partitions → Answer A → Answer A
+acceptedStamps l p a = unless 1 (layoutOk l) (unless 2 (partitionsOk l p) a)
+
+-- what holds of an accepted layout, accepted partitions and their basis
+pub record StampsFacts (l : Layout) (p : Partitions) (b : Basis) : Type 0 where
+  pub layout : LayoutFacts l
+  pub partitions : PartitionsFacts l p
+  pub product : b .product ≡ productOf l
+  pub unit : b .unit ≡ unitOf l
+  pub total : b .total ≡ totalOf p

@@ -1,0 +1,2 @@
+-- The laws of reading: one for each way out.
+pub mod Ways

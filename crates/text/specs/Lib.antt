@@ -1,0 +1,2 @@
+-- What reading answers once the tables are accepted.
+pub mod Accepted
