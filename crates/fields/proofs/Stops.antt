@@ -38,15 +38,16 @@ module _ (ms os : List ℕ) where
   stops (b ∷ t) p i =
       by-test (isAllowed b)
       (λ y. let r = stops t (step ms os p b) (i + 1) in
-      let s = r .1 in
-      (suc (r .0),
-      record {
-        place = rw y (s .place ∙ omega arith);
-        within = omega arith;
-        allowed = and-both y (s .allowed);
-        passed = rw y (s .passed);
-        other = λ l. s .other (omega arith);
-      }))
+      let s = r .1 in (
+        suc (r .0),
+        record {
+          place = rw y (s .place ∙ omega arith);
+          within = omega arith;
+          allowed = and-both y (s .allowed);
+          passed = rw y (s .passed);
+          other = λ l. s .other (omega arith);
+        },
+      ))
       (λ n. (0, record { place = rw n (sym (add-zero i)); within = zero-le; allowed = refl; passed = rw n; other = λ l. n }))
 
   module _ (s : List ℕ) (i : ℕ) (w : Scanned) (e : w ≡ scanFrom ms os begun i (drop i s)) (l : i ≤ length s) where

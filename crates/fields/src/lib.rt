@@ -10,7 +10,9 @@ use rules::CountAnswer;
 use rules::Layout;
 
 const LARGEST_FIELD: u64 = Layout::LARGEST_P + Layout::LARGEST_OFFSET;
+
 const FIELD_CAP: u64 = LARGEST_FIELD + 1;
+
 const SUM_CAP: u64 = Layout::LARGEST_P + 1;
 
 // What is known after some bytes of a text.

@@ -78,7 +78,7 @@ use Rattle.outcomes.specs.Refusals.{
   stepsBackRefusals,
 }
 
--- a layout without fields; table A's partitions and segments without rows
+-- a layout without fields; no partitions; no segments
 unfoldable pub noLayout : Layout
 noLayout = record { n = 0; moduli = []; offsets = []; delimiter = 1 }
 

@@ -7,8 +7,8 @@ use Rattle.rules.specs.Partitions.{Partitions, partitionsIn, startOf, endOf, le
 use Rattle.rules.proofs.Accepted.{partitions-facts}
 use Rattle.rules.specs.Stamp.{encodedIn}
 use Rattle.rules.specs.Print.{partitionOf, decodedIn, stampPrint}
-use Rattle.roundtrip.specs.Ends.{PrintedAs, InnerEndShared, InnerEndPrinted, TotalPrinted}
-use Rattle.roundtrip.proofs.Encoded.{before-next, before-total, partition-is, partition-total}
+use Rattle.roundtrip.specs.Ends.{PrintedAs, InnerEndShared, InnerEndPrinted, TotalPrinted, StampCountBelowP}
+use Rattle.roundtrip.proofs.Encoded.{before-next, before-total, lies, decoded, partition-is, partition-total}
 
 printed-as : (l : Layout) (p : Partitions) (e i c : ℕ) → partitionOf p e ≡ i → decodedIn p e i ≡ c → PrintedAs l p e i c
 unfolding stampPrint
@@ -42,3 +42,9 @@ total-printed l p ok =
     let f = a .each i (omega (arith, a .some)) in
     let last : i + 1 ≡ partitionsIn p = omega (arith, a .some) in
     printed-as l p _ _ _ (partition-total p) (omega (arith, before-next p i, before-total p, ap (lengthsBefore p) last))
+
+pub stamp-count-below-p : StampCountBelowP
+stamp-count-below-p l p ok e h =
+    let facts = partitions-facts l p ok in
+    let there = lies p e (facts .some) h in
+    decoded l p e (partitionOf p e) (facts .each (partitionOf p e) (there .below)) there .in-range

@@ -1,9 +1,10 @@
--- "So an inner end and the next start share one encoded count, printed as the start." "The total itself belongs to the last."
-use Prim.Native.Nat.{ℕ, _+_, _-_, _<_}
+-- "So an inner end and the next start share one encoded count, printed as the start." "the total itself belongs to the last"
+use Prim.Native.Nat.{ℕ, _+_, _-_, _≤_, _<_}
 use mathlib.Core.Path.{_≡_}
 use mathlib.Core.Bool.{true}
 use mathlib.Core.List.{_∷_, _++_}
 use Rattle.rules.specs.declared.Layout.{Layout}
+use Rattle.rules.specs.Layout.{productOf}
 use Rattle.rules.specs.Partitions.{Partitions, partitionsIn, startOf, endOf, totalOf, partitionsOk}
 use Rattle.rules.specs.Stamp.{encodedIn}
 use Rattle.rules.specs.Print.{padded, countPrint, partitionOf, decodedIn, stampPrint}
@@ -28,3 +29,7 @@ InnerEndPrinted =
 -- the total is printed as the last partition's end
 abbrev pub TotalPrinted : Type 0
 TotalPrinted = (l : Layout) (p : Partitions) → partitionsOk l p ≡ true → PrintedAs l p (totalOf p) (partitionsIn p - 1) (endOf p (partitionsIn p - 1))
+
+-- so that printing a stamp is never refused 9
+abbrev pub StampCountBelowP : Type 0
+StampCountBelowP = (l : Layout) (p : Partitions) → partitionsOk l p ≡ true → (e : ℕ) → e ≤ totalOf p → decodedIn p e (partitionOf p e) < productOf l

@@ -16,7 +16,7 @@ use Rattle.rules.specs.Stamp.{readStamp, slashIn}
 use Rattle.rules.specs.Print.{fitting, stampPrint, printStamp, lengthPrinted, bufferAfter}
 use Rattle.rules.specs.Time.{accepted, timeOf, countAt}
 use Rattle.versions.specs.Versions.{Table, Accepted, lastIn, Hypothesis, Says, oneOf, Agree, stampRefusals, countRefusals, timeRefusals}
-use Rattle.versions.specs.Versions.{readBy, printBy, timeBy, countBy, Printed, shown, printed, Exception, Apart, olderPrint, newerPrint, Demand3}
+use Rattle.versions.specs.Versions.{readBy, printBy, timeBy, countBy, Printed, shown, printed, Exception, Apart, olderPrint, newerPrint, Demand3, NeverMisleads}
 use Rattle.versions.proofs.Agreement.{agree-same, agree-refused, agree-unless}
 use Rattle.versions.proofs.Layouts.{OneLayout}
 use Rattle.versions.proofs.Partitions.{KeptPartitions, total-up}
@@ -111,7 +111,7 @@ module _ (older newer : Table) (was : Accepted older) (is : Accepted newer) (say
     apart : Apart older newer e
     apart = record { older-prints = older-prints; newer-prints = newer-prints; differ = numbers-differ _ _ _ }
 
-pub demand-3 : (older newer : Table) → Accepted older → Accepted newer → ((h : Hypothesis) → Says older newer h) → Demand3 older newer
+pub demand-3 : NeverMisleads
 demand-3 older newer was is says =
     record {
       reading = reads older newer was is says;

@@ -1,5 +1,5 @@
 -- "An older table never misleads about a newer stamp": what is asked of two tables, and what is then claimed of the four calls.
--- proofs/Demand3.antt proves it for any two tables; specs/Needed.antt says that nothing asked, nor the exception, can be left out.
+-- `NeverMisleads`, at the end, is the whole of it. proofs/Demand3.antt proves it; specs/Needed.antt says that nothing asked, nor the exception, can be left out.
 use Prim.Native.Nat.{ℕ, _+_, _-_, _≤_, _<_}
 use mathlib.Core.Path.{_≡_}
 use mathlib.Core.Bool.{Bool, true, false, _||_}
@@ -143,3 +143,7 @@ module _ (older newer : Table) where
     pub exception : (e : ℕ) → Exception e → Apart e
     pub time-of : (e : ℕ) → Agree countRefusals (timeBy older e) (timeBy newer e)
     pub count-at : (t : ℤ) → Agree timeRefusals (countBy older t) (countBy newer t)
+
+-- "Take any two accepted tables with one layout, an older and a newer." The whole demand.
+abbrev pub NeverMisleads : Type 0
+NeverMisleads = (older newer : Table) → Accepted older → Accepted newer → ((h : Hypothesis) → Says older newer h) → Demand3 older newer
