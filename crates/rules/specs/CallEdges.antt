@@ -89,10 +89,10 @@ unfolding digitsIn bytes fieldsOf between withDigit symbolsFrom symbolsAt digitA
 fields-edges = refl
 
 pub reading-edges :
-    (readText long (bytes "1000000000001000") ∷ readText long (bytes "1000000000001001") ∷ readText layoutA (bytes "100000000000000.0")
+    (readText long (bytes "1000000000001000") ∷ readText long (bytes "1000000000001001") ∷ readText (clock 1 1) (bytes "1000000000001000.0") ∷ readText (clock 1 1) (bytes "1000000000001001.0") ∷ readText layoutA (bytes "100000000000000.0")
     ∷ readText layoutA (bytes "100000000000000.1") ∷ readText (clock 1 1) (bytes "12.") ∷ readText (clock 1 1) (bytes "12.0") ∷ readText (clock 1 1) (bytes "12.1")
     ∷ readText layoutA (replicate 96 48) ∷ readText layoutA (replicate 97 48) ∷ [])
-    ≡ (answer (10 ^ 15) ∷ refused 9 ∷ answer (10 ^ 15) ∷ refused 9 ∷ answer 120 ∷ refused 8 ∷ answer 120 ∷ answer 0 ∷ refused 4 ∷ [])
+    ≡ (answer (10 ^ 15) ∷ refused 9 ∷ refused 8 ∷ refused 9 ∷ answer (10 ^ 15) ∷ refused 9 ∷ answer 120 ∷ refused 8 ∷ answer 120 ∷ answer 0 ∷ refused 4 ∷ [])
 unfolding allOf all product unless layoutOk productOf msfOf readText fieldsCount fieldsOf between withDigit symbolsFrom symbolsAt digitAfter after afterBlank eachField notAbove notBelow sumOf ticksOf valueOf valueFrom bytes layoutA clock long
 reading-edges = refl
 
