@@ -1,0 +1,4 @@
+pub mod Row
+pub mod Line
+pub mod Promises
+pub mod Within
