@@ -1,16 +1,15 @@
 -- Where the scan stops, and what the pass then tells of the text.
-use Prim.Native.Nat.{ℕ, zero, suc, _+_, _-_, _≤_, _<_, zero-le, min}
+use Prim.Native.Nat.{ℕ, zero, suc, _+_, _≤_, _<_, zero-le}
 use mathlib.Core.Path.{_≡_, refl, sym, ap, subst, _∙_}
-use mathlib.Core.Bool.{Bool, true, false, cond, _&&_}
+use mathlib.Core.Bool.{Bool, true, false}
 use mathlib.Core.List.{List, [], _∷_}
-use lib.Dec.{leb, eqb}
 use lib.ListN.{length, getD, take, drop, length-drop}
-use lib.Seq.{take-all, getD-drop}
+use lib.Seq.{take-all}
 use native.Mathlib.Nat.{add-zero}
 use native.Mathlib.Omega.{arith}
 use Rattle.base.specs.Scans.{all}
 use Rattle.base.proofs.Tests.{by-test, and-both, and-out-first, and-out-second}
-use Rattle.rules.specs.Text.{isAllowed, isDigit, isBlank, isMark}
+use Rattle.rules.specs.Text.{isAllowed}
 use Rattle.fields.specs.declared.Pass.{Pass}
 use Rattle.fields.specs.declared.Scanned.{Scanned}
 use Rattle.fields.specs.Pass.{begun, step, scanFrom}
@@ -38,15 +37,16 @@ module _ (ms os : List ℕ) where
   stops (b ∷ t) p i =
       by-test (isAllowed b)
       (λ y. let r = stops t (step ms os p b) (i + 1) in
-      let s = r .1 in
-      (suc (r .0),
-      record {
-        place = rw y (s .place ∙ omega arith);
-        within = omega arith;
-        allowed = and-both y (s .allowed);
-        passed = rw y (s .passed);
-        other = λ l. s .other (omega arith);
-      }))
+      let s = r .1 in (
+        suc (r .0),
+        record {
+          place = rw y (s .place ∙ omega arith);
+          within = omega arith;
+          allowed = and-both y (s .allowed);
+          passed = rw y (s .passed);
+          other = λ l. s .other (omega arith);
+        },
+      ))
       (λ n. (0, record { place = rw n (sym (add-zero i)); within = zero-le; allowed = refl; passed = rw n; other = λ l. n }))
 
   module _ (s : List ℕ) (i : ℕ) (w : Scanned) (e : w ≡ scanFrom ms os begun i (drop i s)) (l : i ≤ length s) where

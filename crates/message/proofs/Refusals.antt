@@ -1,10 +1,9 @@
 -- Which refusals reading a message can give. 4 is none of them: its text has at most 96 bytes.
 use Prim.Native.Nat.{ℕ, _-_, _≤_}
-use mathlib.Core.Path.{_≡_, refl, sym, _∙_}
-use mathlib.Core.Bool.{Bool, true, false}
+use mathlib.Core.Path.{_≡_, refl}
+use mathlib.Core.Bool.{true}
 use mathlib.Core.List.{List, [], _∷_}
-use lib.Dec.{leb}
-use lib.ListN.{length, take, drop, length-take}
+use lib.ListN.{length, drop, length-take}
 use native.Mathlib.Omega.{arith}
 use borrow.Author.Tests.{le-leb, leb-true}
 use Rattle.base.specs.Scans.{all}
@@ -12,7 +11,7 @@ use Rattle.base.proofs.Tests.{by-test, all-of-head, all-of-tail}
 use Rattle.rules.specs.Limits.{longestText}
 use Rattle.rules.specs.declared.Layout.{Layout}
 use Rattle.rules.specs.Partitions.{Partitions}
-use Rattle.rules.specs.Answer.{Answer, refused, unless}
+use Rattle.rules.specs.Answer.{refused, unless}
 use Rattle.rules.specs.Stamp.{slashIn, readStamp}
 use Rattle.rules.specs.Message.{textLength, messageOk, textIn, readMessage}
 use Rattle.text.proofs.Refusals.{elemOf, Only, only-refused, only-passed, only-unless, only-more, stampRefusals, stamp-only}

@@ -1,21 +1,20 @@
 -- Which refusals reading can give: each definition refuses with a number of its list and no other.
 use Prim.Native.Nat.{ℕ, _+_}
-use mathlib.Core.Path.{_≡_, refl, sym, _∙_}
-use mathlib.Core.Bool.{Bool, true, false, _||_, cond}
+use mathlib.Core.Path.{_≡_, refl}
+use mathlib.Core.Bool.{Bool, true, false, _||_}
 use mathlib.Core.List.{List, [], _∷_}
 use mathlib.Core.Option.{Option, none, some}
-use lib.Dec.{leb, eqb}
-use lib.ListN.{length, take, drop}
+use lib.Dec.{eqb}
+use lib.ListN.{take, drop}
 use borrow.Author.Tests.{eqb-true}
 use Rattle.base.specs.Scans.{all}
 use Rattle.base.proofs.Tests.{by-test, not-both, and-first, and-second}
-use Rattle.rules.specs.Limits.{largestCount, longestText}
 use Rattle.rules.specs.declared.Layout.{Layout}
 use Rattle.rules.specs.Answer.{Answer, answer, refused, unless, andThen}
-use Rattle.rules.specs.Layout.{layoutOk, moduliOf, offsetsOf}
-use Rattle.rules.specs.Partitions.{Partitions, partitionsIn, partitionsOk}
-use Rattle.rules.specs.Text.{Field, isAllowed, fieldsOf, firstPresent, notAbove, notBelow, eachField, sumOf, fieldsCount, readText}
-use Rattle.rules.specs.Stamp.{slashIn, frontOk, frontNumber, holds, encodedIn, encodeNamed, encodeFound, encodeFirst, stampAt, readStamp}
+use Rattle.rules.specs.Layout.{offsetsOf}
+use Rattle.rules.specs.Partitions.{Partitions, partitionsIn}
+use Rattle.rules.specs.Text.{Field, fieldsOf, notAbove, notBelow, eachField, fieldsCount, readText}
+use Rattle.rules.specs.Stamp.{slashIn, frontNumber, holds, encodeNamed, encodeFound, encodeFirst, stampAt, readStamp}
 use Rattle.base.specs.Scans.{firstBelow}
 
 unfoldable pub elemOf : ℕ → List ℕ → Bool

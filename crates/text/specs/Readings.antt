@@ -1,5 +1,5 @@
 -- The readings of document 01 on text, stamps and messages, and the limits of text, as one table with one statement.
-use Prim.Native.Nat.{ℕ, _+_, _-_, _*_, _^_}
+use Prim.Native.Nat.{ℕ, _-_, _^_}
 use mathlib.Core.Path.{_≡_, refl}
 use mathlib.Core.List.{List, [], _∷_, _++_, map}
 use Prim.Native.String.{String}

@@ -38,7 +38,14 @@ pub fn read_stamp(layout: Layout, starts: &[u64], ends: &[u64], text: &[u8]) -> 
 {
     let n = layout.n;
     match accept_stamps(layout, starts, ends) {
-        Acceptance::Accepted(_) => stamp_count(&layout.moduli, &layout.offsets, n, starts, ends, text),
+        Acceptance::Accepted(_) => stamp_count(
+            &layout.moduli,
+            &layout.offsets,
+            n,
+            starts,
+            ends,
+            text,
+        ),
         Acceptance::Refused(k) => refused(k),
     }
 }
@@ -54,7 +61,14 @@ fn text_count<'a>(moduli: &'a [u64], offsets: &'a [u64], n: usize, text: &[u8]) 
     count_from(&moduli[..n], &offsets[..n], text, 0)
 }
 
-fn stamp_count<'a>(moduli: &'a [u64], offsets: &'a [u64], n: usize, starts: &[u64], ends: &[u64], text: &[u8]) -> CountAnswer
+fn stamp_count<'a>(
+    moduli: &'a [u64],
+    offsets: &'a [u64],
+    n: usize,
+    starts: &[u64],
+    ends: &[u64],
+    text: &[u8],
+) -> CountAnswer
     requires { ⌜ (1 ≤ n) × (n ≤ length (now moduli)) × (n ≤ length (now offsets)) ⌝ }
     requires { ⌜ Listed (partitions (now starts) (now ends)) ⌝ }
     ensures { λ r. ⌜ countAnswer r ≡ stampCount (take n (now (moduli .entry))) (take n (now (offsets .entry))) (partitions (now (starts .entry)) (now (ends .entry))) (now (text .entry)) ⌝ }
@@ -79,7 +93,13 @@ fn count_from(moduli: &[u64], offsets: &[u64], text: &[u8], from: usize) -> Coun
     count(moduli, offsets, pass)
 }
 
-fn stamp_in(moduli: &[u64], offsets: &[u64], starts: &[u64], ends: &[u64], text: &[u8]) -> CountAnswer
+fn stamp_in(
+    moduli: &[u64],
+    offsets: &[u64],
+    starts: &[u64],
+    ends: &[u64],
+    text: &[u8],
+) -> CountAnswer
     requires { ⌜ (1 ≤ length (now moduli)) × (length (now offsets) ≡ length (now moduli)) ⌝ }
     requires { ⌜ Listed (partitions (now starts) (now ends)) ⌝ }
     ensures { λ r. ⌜ countAnswer r ≡ stampAt (clock (now (moduli .entry)) (now (offsets .entry))) (partitions (now (starts .entry)) (now (ends .entry))) (now (text .entry)) (slashIn (now (text .entry))) ⌝ }
@@ -97,7 +117,12 @@ fn stamp_in(moduli: &[u64], offsets: &[u64], starts: &[u64], ends: &[u64], text:
         return CountAnswer::Refused(refusals::BYTE_NOT_ALLOWED);
     }
     let number = pass.value;
-    then_named(starts, ends, number, count_from(moduli, offsets, text, at + 1))
+    then_named(
+        starts,
+        ends,
+        number,
+        count_from(moduli, offsets, text, at + 1),
+    )
 }
 
 fn then_first(starts: &[u64], ends: &[u64], counted: CountAnswer) -> CountAnswer
