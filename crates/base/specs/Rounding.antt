@@ -1,4 +1,4 @@
--- A quotient rounded down and rounded up. The divisor is at least 1 wherever these are used.
+-- A quotient rounded down and rounded up, of a divisor of at least 1.
 use Prim.Native.Nat.{ℕ, _+_, _-_, _/_}
 
 -- the last whole number at or below x / d

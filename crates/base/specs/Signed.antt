@@ -1,4 +1,4 @@
--- Signed numbers, as a time is: a time so much later, how much later one time is than another, and a time as an unsigned number.
+-- Signed numbers: one so much later, how much later one is than another, and one as an unsigned number.
 use Prim.Native.Nat.{ℕ, suc, _+_, _-_}
 use lib.IntN.{ℤ, pos, negsuc, natAbs, _+ℤ_, _-ℤ_}
 
@@ -6,7 +6,7 @@ use lib.IntN.{ℤ, pos, negsuc, natAbs, _+ℤ_, _-ℤ_}
 unfoldable pub later : ℤ → ℕ → ℤ
 later t d = t +ℤ pos d
 
--- how long after s the time t is, where s is at most t
+-- how far after s t is, where s is at most t
 unfoldable pub elapsed : ℤ → ℤ → ℕ
 elapsed s t = natAbs (t -ℤ s)
 

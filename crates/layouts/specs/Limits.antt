@@ -9,6 +9,7 @@ use Rattle.rules.specs.Limits.{
   mostPartitions,
   mostSegments,
   latestTime,
+  earliestTime,
   picoseconds,
   largestRate,
   longestText,
@@ -24,6 +25,7 @@ pub record SameLimits (r : Limits) : Type 0 where
   pub most-partitions : r .«most_partitions» ≡ mostPartitions
   pub most-segments : r .«most_segments» ≡ mostSegments
   pub latest-time : r .«latest_time» ≡ latestTime
+  pub earliest-time : r .«earliest_time» ≡ earliestTime
   pub picoseconds : r .picoseconds ≡ picoseconds
   pub largest-rate : r .«largest_rate» ≡ largestRate
   pub longest-text : r .«longest_text» ≡ longestText

@@ -9,8 +9,10 @@ pub const MOST_PARTITIONS: usize = 9_999;
 
 pub const MOST_SEGMENTS: usize = 10_000;
 
-// Nanoseconds; the earliest time is its negative.
+// Nanoseconds.
 pub const LATEST_TIME: i64 = 4_000_000_000_000_000_000;
+
+pub const EARLIEST_TIME: i64 = -LATEST_TIME;
 
 // In a nanosecond.
 pub const PICOSECONDS: u64 = 1_000;
@@ -31,6 +33,7 @@ pub struct Limits {
     pub most_partitions: usize,
     pub most_segments: usize,
     pub latest_time: i64,
+    pub earliest_time: i64,
     pub picoseconds: u64,
     pub largest_rate: u64,
     pub longest_text: usize,
@@ -49,6 +52,7 @@ pub fn all() -> Limits
         most_partitions: MOST_PARTITIONS,
         most_segments: MOST_SEGMENTS,
         latest_time: LATEST_TIME,
+        earliest_time: EARLIEST_TIME,
         picoseconds: PICOSECONDS,
         largest_rate: LARGEST_RATE,
         longest_text: LONGEST_TEXT,

@@ -23,7 +23,7 @@ pub data Answer (A : Type 0) : Type 0 where
   refused : Refusal → Answer A
 
 module _ {A : Type 0} where
-  -- "A refusal is given exactly then": refused k unless the test holds, and otherwise what follows
+  -- "A refusal is given exactly then": what follows where the test holds, and refused k otherwise
   unfoldable pub unless : ℕ → Bool → Answer A → Answer A
   unless k true a = a
   unless k false a = refused k

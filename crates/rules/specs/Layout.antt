@@ -1,4 +1,4 @@
--- "Layout. A clock has n cascading fields." The layout is accepted exactly where each of the tests holds.
+-- "A clock has n cascading fields". The layout is accepted exactly where each of the tests holds.
 use Prim.Native.Nat.{ℕ}
 use mathlib.Core.Bool.{Bool}
 use mathlib.Core.List.{List, [], _∷_}
@@ -23,8 +23,8 @@ productOf l = product (moduliOf l)
 unfoldable pub msfOf : Layout → ℕ
 msfOf l = product (drop 1 (moduliOf l))
 
--- "n from 1 to 10. Each has a modulus of at least 1 and an offset from 0 to 1,000. P .. is at most 10^15. MSF .. is at most 10^12.
--- The output delimiter is a code", 1 to 5.
+-- "n from 1 to 10. Each has a modulus of at least 1 and an offset from 0 to 1,000. P .. is at most 10^15. MSF .. is at most 10^12."
+-- "The output delimiter is a code", 1 to 5.
 unfoldable pub layoutOk : Layout → Bool
 layoutOk l =
     allOf

@@ -12,3 +12,4 @@ pub mod Time
 pub mod Message
 pub mod Examples
 pub mod Edges
+pub mod CallEdges

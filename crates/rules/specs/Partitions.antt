@@ -1,5 +1,5 @@
--- "Partitions. Two lists, start and end."
-use Prim.Native.Nat.{ℕ, _+_, _-_}
+-- "Two lists, start and end, of one length".
+use Prim.Native.Nat.{ℕ, _-_}
 use mathlib.Core.Bool.{Bool}
 use mathlib.Core.List.{List, [], _∷_}
 use lib.Dec.{leb, ltb, eqb}

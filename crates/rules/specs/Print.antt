@@ -28,7 +28,7 @@ lastDigits (suc w) x = lastDigits w (x / 10) ++ ((48 + x % 10) ∷ [])
 unfoldable pub padded : ℕ → ℕ → List ℕ
 padded w x = lastDigits (max w (digitCount x)) x
 
--- "zero-padded to as many digits as the number modulus - 1 has (0 has one)"
+-- "zero-padded to as many digits as the number modulus - 1 has (0 has one)", whatever the offset o
 unfoldable pub fieldWidth : ℕ → ℕ → ℕ
 fieldWidth m o = digitCount (m - 1)
 
@@ -40,7 +40,6 @@ fieldPrint v m o = padded (fieldWidth m o) (v + o)
 unfoldable pub delimiterByte : ℕ → ℕ
 delimiterByte d = getD (46 ∷ 58 ∷ 45 ∷ 44 ∷ 32 ∷ []) (d - 1) 0
 
--- the fields after the first, each with the delimiter in front
 -- "A count below P is split into fields by the moduli", the first field the count over the product of the later moduli.
 -- "Fields are joined by the delimiter."
 unfoldable pub fieldsPrint : ℕ → ℕ → List ℕ → List ℕ → List ℕ
@@ -77,7 +76,7 @@ fitting room s = unless 16 (leb (length s) room) (answer s)
 unfoldable pub printCount : Layout → ℕ → ℕ → Answer (List ℕ)
 printCount l c room = unless 1 (layoutOk l) (unless 9 (ltb c (productOf l)) (fitting room (countPrint l c)))
 
--- "12: encoded count above the total"
+-- "12: encoded count above the total". Never 9: the count of an encoded count up to the total is below P (`StampCountBelowP` of roundtrip).
 unfoldable pub printStamp : Layout → Partitions → ℕ → ℕ → Answer (List ℕ)
 printStamp l p e room =
     unless 1 (layoutOk l) (unless 2 (partitionsOk l p) (unless 12 (leb e (totalOf p)) (fitting room (stampPrint l p e))))
@@ -87,7 +86,7 @@ unfoldable pub lengthPrinted : Answer (List ℕ) → Answer ℕ
 lengthPrinted (answer s) = answer (length s)
 lengthPrinted (refused k) = refused k
 
--- "The print goes to the front of the lent buffer, the rest is untouched." A refusal leaves it.
+-- "The print goes to the front of the lent buffer, the rest is untouched". A refusal leaves it.
 unfoldable pub bufferAfter : Answer (List ℕ) → List ℕ → List ℕ
 bufferAfter (answer s) buffer = s ++ drop (length s) buffer
 bufferAfter (refused k) buffer = buffer

@@ -1,6 +1,6 @@
--- "Segments. Three lists of one length": count, time in nanoseconds, rate in picoseconds per first-field count.
+-- "Three lists of one length": count, time in nanoseconds, rate in picoseconds per first-field count.
 use Prim.Native.Nat.{ℕ, _+_, _-_, _*_}
-use mathlib.Core.Bool.{Bool, true, not, _&&_, _||_, cond}
+use mathlib.Core.Bool.{Bool, _&&_, _||_, cond}
 use mathlib.Core.List.{List, [], _∷_}
 use lib.IntN.{ℤ, pos}
 use lib.Signed.{leZ, ltZ}

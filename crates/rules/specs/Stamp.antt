@@ -1,6 +1,6 @@
 -- "A stamp may have a partition in front, before the first `/`" (the paper's term: the front part).
 use Prim.Native.Nat.{ℕ, _+_, _-_}
-use mathlib.Core.Bool.{Bool, true, false, _&&_}
+use mathlib.Core.Bool.{Bool, false, _&&_}
 use mathlib.Core.List.{List, [], _∷_}
 use mathlib.Core.Option.{Option, none, some}
 use lib.Dec.{leb, eqb}
@@ -58,14 +58,14 @@ encodeFound p c none = refused 11
 unfoldable pub encodeFirst : Partitions → ℕ → Answer ℕ
 encodeFirst p c = encodeFound p c (firstBelow (holds p c) (partitionsIn p))
 
--- a stamp by whether it has a `/`: "5; 7; 6; fields ..; the sum's 9; 10; 11"
+-- a stamp by whether it has a `/`: 5, then what the fields refuse, then 10 and 11
 unfoldable pub stampAt : Layout → Partitions → List ℕ → Option ℕ → Answer ℕ
 stampAt l p s none = unless 5 (all isAllowed s) (andThen (fieldsCount l (fieldsOf s)) (encodeFirst p))
 stampAt l p s (some i) =
     unless 5 (frontOk (take i s) && all isAllowed (drop (i + 1) s))
     (andThen (fieldsCount l (fieldsOf (drop (i + 1) s))) (encodeNamed p (frontNumber (take i s))))
 
--- The call: a stamp, with or without a partition, to its encoded count. "1, 2; 4; 5; .."
+-- The call: a stamp, with or without a partition, to its encoded count. 1 and 2, then 4, 5 and the rest.
 unfoldable pub readStamp : Layout → Partitions → List ℕ → Answer ℕ
 readStamp l p s =
     unless 1 (layoutOk l)

@@ -35,7 +35,7 @@ pub data Symbol : Type 0 where
 pub data Before : Type 0 where
   edge number gap : Before
 
--- the digit itself, with a mark in front where "a run of blanks with a digit directly on both sides" ends here
+-- the digit itself, with a mark in front where a "run of blanks with a digit directly on both sides" ends here
 unfoldable pub digitAfter : Before → ℕ → List Symbol
 digitAfter edge d = digit d ∷ []
 digitAfter number d = digit d ∷ []
@@ -90,7 +90,7 @@ valueOf f = valueFrom 0 f
 
 -- "An empty or missing field adds no ticks, whatever its offset"; another adds "(value - offset) times the product of the later moduli".
 unfoldable pub ticksOf : Field → ℕ → ℕ → ℕ
-ticksOf f o m = cond (isPresent f) ((valueOf f - o) * m) 0
+ticksOf f o weight = cond (isPresent f) ((valueOf f - o) * weight) 0
 
 -- "The count is the sum over fields": fields, moduli, offsets
 unfoldable pub sumOf : List Field → List ℕ → List ℕ → ℕ
@@ -117,7 +117,7 @@ eachField [] os a = a
 eachField (f ∷ fs) [] a = a
 eachField (f ∷ fs) (o ∷ os) a = unless 9 (notAbove f) (unless 8 (notBelow f o) (eachField fs os a))
 
--- "7; 6; then fields left to right ..; the sum's 9", and the count
+-- "7; 6; then fields left to right, 9 before 8 in each; the sum's 9", and the count
 unfoldable pub fieldsCount : Layout → List Field → Answer ℕ
 fieldsCount l fs =
     unless 7 (leb (length fs) (l .n))
@@ -126,7 +126,7 @@ fieldsCount l fs =
     (unless 9 (leb (sumOf fs (moduliOf l) (offsetsOf l)) largestCount)
     (answer (sumOf fs (moduliOf l) (offsetsOf l))))))
 
--- The call: clock text without partition to its count. "1; 4; 5; .."
+-- The call: clock text without partition to its count. 1, then 4, 5 and what the fields refuse.
 unfoldable pub readText : Layout → List ℕ → Answer ℕ
 readText l s =
     unless 1 (layoutOk l)

@@ -32,7 +32,7 @@ unfoldable pub timeIn : Layout → Segments → ℕ → Option ℕ → Answer �
 timeIn l g e (some i) = answer (lineAt l g i e)
 timeIn l g e none = refused 13
 
--- The call: the time of an encoded count. "12: encoded count above the total"
+-- The call: the time of an encoded count. "12: encoded count above the total". Never 14: the time lies within ±4×10^18 (`TimeInRange` of time).
 unfoldable pub timeOf : Layout → Partitions → Segments → ℕ → Answer ℤ
 timeOf l p g e = accepted l p g (unless 12 (leb e (totalOf p)) (timeIn l g e (segmentOf g e)))
 

@@ -2,3 +2,4 @@
 pub mod Guards
 pub mod Ways
 pub mod Uses
+pub mod Table

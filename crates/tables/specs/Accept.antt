@@ -4,8 +4,8 @@ use Rattle.rules.specs.declared.Layout.{Layout}
 use Rattle.rules.specs.Answer.{Answer, answer, refused, unless}
 use Rattle.rules.specs.Layout.{layoutOk, productOf}
 use Rattle.rules.specs.Partitions.{Partitions, partitionsOk, totalOf}
-use Rattle.rules.specs.Segments.{unitOf}
-use Rattle.rules.specs.Facts.{LayoutFacts, PartitionsFacts}
+use Rattle.rules.specs.Segments.{Segments, unitOf}
+use Rattle.rules.specs.Facts.{LayoutFacts, PartitionsFacts, SegmentsFacts}
 use Rattle.tables.specs.declared.Basis.{Basis}
 use Rattle.tables.specs.declared.Acceptance.{Acceptance}
 use Rattle.tables.specs.declared.Acceptance.the-variants.{Accepted, Refused}
@@ -29,3 +29,8 @@ pub record StampsFacts (l : Layout) (p : Partitions) (b : Basis) : Type 0 where
   pub product : b .product ≡ productOf l
   pub unit : b .unit ≡ unitOf l
   pub total : b .total ≡ totalOf p
+
+-- and with accepted segments
+pub record TableFacts (l : Layout) (p : Partitions) (g : Segments) (b : Basis) : Type 0 where
+  pub stamps : StampsFacts l p b
+  pub segments : SegmentsFacts l p g

@@ -1,10 +1,17 @@
-// Whether tables are accepted: 1 layout, 2 partitions, in this order, with the numbers that calls need of them.
+// Whether tables are accepted: 1 layout, 2 partitions, 3 segments, in this order, with the numbers that calls need of them;
+// and the question whether a table steps back.
 ghost use mathlib.Core.Path.{_≡_};
-ghost use Rattle.rules.specs.Answer.{answer};
+ghost use Rattle.rules.specs.Answer.{answer, stepsBackAnswer};
 ghost use Rattle.rules.specs.Partitions.{partitions};
+ghost use Rattle.rules.specs.Segments.{segments};
+ghost use Rattle.rules.specs.Time.{accepted, stepsBackIn};
 ghost use Rattle.tables.specs.Accept.{acceptance, basis, acceptedStamps};
+use layouts::BAD_LAYOUT;
 use layouts::limits::PICOSECONDS;
+use partitions::BAD_PARTITIONS;
 use rules::Layout;
+use rules::StepsBackAnswer;
+use segments::BAD_SEGMENTS;
 
 // Of accepted tables: P, the unit 1,000×MSF by which a rate is divided, and the total.
 pub struct Basis {
@@ -24,15 +31,77 @@ pub fn accept_stamps(layout: Layout, starts: &[u64], ends: &[u64]) -> Acceptance
 {
     let measured = layouts::measure(layout);
     if !measured.ok {
-        return Acceptance::Refused(1);
+        return Acceptance::Refused(BAD_LAYOUT);
     }
     let checked = partitions::check(measured.product, starts, ends);
     if !checked.ok {
-        return Acceptance::Refused(2);
+        return Acceptance::Refused(BAD_PARTITIONS);
     }
     Acceptance::Accepted(Basis {
         product: measured.product,
         unit: PICOSECONDS * measured.msf,
         total: checked.total,
     })
+}
+
+// Layout, partitions and segments: what times are turned by.
+pub fn accept(
+    layout: Layout,
+    starts: &[u64],
+    ends: &[u64],
+    counts: &[u64],
+    times: &[i64],
+    rates: &[u64],
+) -> Acceptance
+    ensures { λ r. ⌜ acceptance r ≡ accepted layout (partitions (now (starts .entry)) (now (ends .entry))) (segments (now (counts .entry)) (now (times .entry)) (now (rates .entry))) (answer (basis layout (partitions (now (starts .entry)) (now (ends .entry))))) ⌝ }
+{
+    match accept_stamps(layout, starts, ends) {
+        Acceptance::Refused(k) => refused(k),
+        Acceptance::Accepted(b) => {
+            if segments::check(b.unit, b.total, counts, times, rates) {
+                return accepted(b);
+            }
+            refused(BAD_SEGMENTS)
+        }
+    }
+}
+
+// Whether the table steps back.
+pub fn steps_back(
+    layout: Layout,
+    starts: &[u64],
+    ends: &[u64],
+    counts: &[u64],
+    times: &[i64],
+    rates: &[u64],
+) -> StepsBackAnswer
+    ensures { λ r. ⌜ stepsBackAnswer r ≡ stepsBackIn layout (partitions (now (starts .entry)) (now (ends .entry))) (segments (now (counts .entry)) (now (times .entry)) (now (rates .entry))) ⌝ }
+{
+    match accept(layout, starts, ends, counts, times, rates) {
+        Acceptance::Refused(k) => steps_refused(k),
+        Acceptance::Accepted(b) => {
+            if segments::steps_back(b.unit, counts, times, rates) {
+                return StepsBackAnswer::Yes;
+            }
+            StepsBackAnswer::No
+        }
+    }
+}
+
+fn accepted(basis: Basis) -> Acceptance
+    ensures { λ r. ⌜ r ≡ Acceptance.Accepted basis ⌝ }
+{
+    Acceptance::Accepted(basis)
+}
+
+fn refused(number: u64) -> Acceptance
+    ensures { λ r. ⌜ r ≡ Acceptance.Refused number ⌝ }
+{
+    Acceptance::Refused(number)
+}
+
+fn steps_refused(number: u64) -> StepsBackAnswer
+    ensures { λ r. ⌜ r ≡ StepsBackAnswer.Refused number ⌝ }
+{
+    StepsBackAnswer::Refused(number)
 }

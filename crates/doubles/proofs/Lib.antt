@@ -1,0 +1,3 @@
+-- Laws of the double form, and the one number with which it refuses.
+pub mod Laws
+pub mod Refusals

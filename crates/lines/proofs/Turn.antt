@@ -1,0 +1,88 @@
+-- One step of the code and what is carried: a loop over a chunk feeds the chunk's bytes, line by line.
+use Prim.Native.Nat.{ℕ, _+_, _≤_}
+use mathlib.Core.Path.{_≡_, refl, sym, ap, _∙_}
+use mathlib.Core.Bool.{Bool, true, false, cond}
+use mathlib.Core.List.{List, [], _∷_, _++_, append-nil, append-assoc}
+use lib.Dec.{eqb}
+use lib.ListN.{length, take, drop, length-take, take-append-drop, drop-of-length-le}
+use lib.Seq.{take-append-seam, drop-drop}
+use native.Mathlib.Nat.{suc-add}
+use native.Mathlib.Omega.{arith}
+use Rattle.base.proofs.Tests.{by-test}
+use Rattle.lines.specs.declared.LineStep.{LineStep}
+use Rattle.lines.specs.Lines.{lineEnd, lineBuffer, keptOf}
+use Rattle.lines.specs.Steps.{Carried, carried, withNext, fed, lineLeft, lineIn, endsIn, takenIn, keptWith, nextLine, lineAfter, carriedOn}
+use Rattle.lines.proofs.Whole.{fed-join, next-end, next-byte, kept-again, kept-all, kept-fits}
+
+-- the bytes that a step takes, fed
+step-fed : (ls : List (List ℕ)) (l bs : List ℕ) → length l ≤ lineBuffer → fed (carried ls l) (take (takenIn bs) bs) ≡ carriedOn ls (endsIn bs) (keptWith l bs)
+unfolding takenIn lineIn endsIn keptWith fed carriedOn
+step-fed ls l [] h = rw (append-nil, kept-all l h)
+step-fed ls l (b ∷ bs) h =
+    by-test (eqb b lineEnd)
+    (λ t. rw t (next-end ls l b t ∙ rw (append-nil l, kept-all l h)))
+    (λ f. rw (f, suc-add)
+    (ap (λ c. fed c (take (takenIn bs) bs)) (next-byte ls l b f)
+    ∙ step-fed ls (keptOf (l ++ (b ∷ []))) bs (kept-fits (l ++ (b ∷ [])))
+    ∙ rw (kept-again (l ++ (b ∷ [])) (lineIn bs), append-assoc)))
+
+-- the lines that have ended do not matter to the line under way
+same-next : (c d : Carried) (b : ℕ) → c .line ≡ d .line → withNext c b .line ≡ withNext d b .line
+unfolding withNext carried
+same-next c d b e = by-test (eqb b lineEnd) (λ t. rw t) (λ f. rw (f, e))
+
+same-left : (c d : Carried) (bs : List ℕ) → c .line ≡ d .line → fed c bs .line ≡ fed d bs .line
+unfolding fed
+same-left c d [] e = e
+same-left c d (b ∷ bs) e = same-left (withNext c b) (withNext d b) bs (same-next c d b e)
+
+left-alone : (ls : List (List ℕ)) (l bs : List ℕ) → fed (carried ls l) bs .line ≡ lineLeft l bs
+unfolding lineLeft carried
+left-alone ls l bs = same-left (carried ls l) (carried [] l) bs refl
+
+settled : (ls : List (List ℕ)) (e : Bool) (k : ℕ) (l bs : List ℕ) → fed (carriedOn ls e (take k l)) bs .line ≡ lineLeft (take (cond e 0 k) l) bs
+unfolding carriedOn
+settled ls true k l bs = left-alone (ls ++ (take k l ∷ [])) [] bs
+settled ls false k l bs = left-alone ls (take k l) bs
+
+-- One step of the code. What was carried, fed the rest of the chunk, is what is carried after the step, fed what is left then.
+module _ (chunk : List ℕ) (at : ℕ) (line : List ℕ) (kept : ℕ) where
+  pub kept-now : take (nextLine chunk at line kept .kept) (lineAfter chunk at line kept) ≡ keptWith (take kept line) (drop at chunk)
+  unfolding nextLine lineAfter
+  kept-now = take-append-seam (keptWith (take kept line) (drop at chunk)) _
+
+  pub step-turn :
+      (ls : List (List ℕ))
+      → kept ≤ lineBuffer
+      → fed (carried ls (take kept line)) (drop at chunk)
+      ≡ fed
+      (carriedOn ls (nextLine chunk at line kept .ended) (take (nextLine chunk at line kept .kept) (lineAfter chunk at line kept)))
+      (drop (nextLine chunk at line kept .at) chunk)
+  unfolding nextLine
+  step-turn ls h =
+      rw (kept-now, ← drop-drop (takenIn bytes) at chunk, ← step-fed ls (take kept line) bytes fits, ← fed-join, take-append-drop)
+    where
+      bytes : List ℕ
+      bytes = drop at chunk
+
+      fits : length (take kept line) ≤ lineBuffer
+      fits = rw length-take (omega arith)
+
+-- The same of the line under way alone, as a loop over a chunk meets it: after a line has ended, 0 bytes of the next are kept.
+module _ {whole : List ℕ} (chunk : List ℕ) (at : ℕ) (line : List ℕ) (kept : ℕ) (so-far : whole ≡ lineLeft (take kept line) (drop at chunk)) where
+  pub left-turn :
+      {r : LineStep} {out : List ℕ} {next : ℕ}
+      → kept ≤ lineBuffer
+      → r ≡ nextLine chunk at line kept
+      → out ≡ lineAfter chunk at line kept
+      → next ≡ cond (r .ended) 0 (r .kept)
+      → whole ≡ lineLeft (take next out) (drop (r .at) chunk)
+  left-turn {r} {out} {next} h er eo en =
+      so-far
+      ∙ sym (left-alone [] (take kept line) (drop at chunk))
+      ∙ ap (λ c. c .line) (step-turn chunk at line kept [] h)
+      ∙ rw (← er, ← eo, en) (settled [] (r .ended) (r .kept) out (drop (r .at) chunk))
+
+  pub left-done : length chunk ≤ at → take kept line ≡ whole
+  unfolding lineLeft fed carried
+  left-done h = sym (so-far ∙ rw (drop-of-length-le chunk h))

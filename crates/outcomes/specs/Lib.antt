@@ -1,0 +1,3 @@
+-- Which refusals each call can give.
+pub mod Refusals
+pub mod Given

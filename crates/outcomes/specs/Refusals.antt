@@ -1,0 +1,62 @@
+-- The exact set of refusals that each call can give. proofs/Refusals.antt shows that it gives no other, Given.antt that it gives each.
+use Prim.Native.Nat.{ℕ}
+use mathlib.Core.Path.{_≡_}
+use mathlib.Core.Bool.{Bool, true, false, _||_}
+use mathlib.Core.List.{List, [], _∷_}
+use lib.IntN.{ℤ}
+use lib.Dec.{eqb}
+use Rattle.rules.specs.declared.Layout.{Layout}
+use Rattle.rules.specs.Answer.{Answer, refused}
+use Rattle.rules.specs.Partitions.{Partitions}
+use Rattle.rules.specs.Segments.{Segments}
+use Rattle.rules.specs.Text.{readText}
+use Rattle.rules.specs.Stamp.{readStamp}
+use Rattle.rules.specs.Message.{readMessage}
+use Rattle.rules.specs.Print.{printCount, printStamp}
+use Rattle.rules.specs.Time.{timeOf, countAt, stepsBackIn}
+
+unfoldable pub textRefusals : List ℕ
+textRefusals = 1 ∷ 4 ∷ 5 ∷ 6 ∷ 7 ∷ 8 ∷ 9 ∷ []
+
+unfoldable pub stampRefusals : List ℕ
+stampRefusals = 1 ∷ 2 ∷ 4 ∷ 5 ∷ 6 ∷ 7 ∷ 8 ∷ 9 ∷ 10 ∷ 11 ∷ []
+
+-- never 4: the text of a message has at most 96 bytes
+unfoldable pub messageRefusals : List ℕ
+messageRefusals = 17 ∷ 1 ∷ 2 ∷ 5 ∷ 6 ∷ 7 ∷ 8 ∷ 9 ∷ 10 ∷ 11 ∷ []
+
+unfoldable pub printCountRefusals : List ℕ
+printCountRefusals = 1 ∷ 9 ∷ 16 ∷ []
+
+-- never 9: the count of a stamp is below P
+unfoldable pub printStampRefusals : List ℕ
+printStampRefusals = 1 ∷ 2 ∷ 12 ∷ 16 ∷ []
+
+-- never 14: the time of a count lies within ±4×10^18
+unfoldable pub timeOfRefusals : List ℕ
+timeOfRefusals = 1 ∷ 2 ∷ 3 ∷ 12 ∷ 13 ∷ []
+
+unfoldable pub countAtRefusals : List ℕ
+countAtRefusals = 1 ∷ 2 ∷ 3 ∷ 13 ∷ 14 ∷ []
+
+unfoldable pub stepsBackRefusals : List ℕ
+stepsBackRefusals = 1 ∷ 2 ∷ 3 ∷ []
+
+-- k is one of ks
+unfoldable pub among : ℕ → List ℕ → Bool
+among k [] = false
+among k (j ∷ js) = eqb k j || among k js
+
+-- every refusal of a call is one of ks
+abbrev pub OnlyRefuses : {A : Type 0} → List ℕ → Answer A → Type 0
+OnlyRefuses ks a = (k : ℕ) → a ≡ refused k → among k ks ≡ true
+
+pub record Refusals : Type 0 where
+  pub text : (l : Layout) (s : List ℕ) → OnlyRefuses textRefusals (readText l s)
+  pub stamp : (l : Layout) (p : Partitions) (s : List ℕ) → OnlyRefuses stampRefusals (readStamp l p s)
+  pub message : (l : Layout) (p : Partitions) (m : List ℕ) → OnlyRefuses messageRefusals (readMessage l p m)
+  pub print-count : (l : Layout) (c room : ℕ) → OnlyRefuses printCountRefusals (printCount l c room)
+  pub print-stamp : (l : Layout) (p : Partitions) (e room : ℕ) → OnlyRefuses printStampRefusals (printStamp l p e room)
+  pub time-of : (l : Layout) (p : Partitions) (g : Segments) (e : ℕ) → OnlyRefuses timeOfRefusals (timeOf l p g e)
+  pub count-at : (l : Layout) (p : Partitions) (g : Segments) (t : ℤ) → OnlyRefuses countAtRefusals (countAt l p g t)
+  pub steps-back : (l : Layout) (p : Partitions) (g : Segments) → OnlyRefuses stepsBackRefusals (stepsBackIn l p g)

@@ -1,0 +1,1 @@
+// Which refusals each call can give stands in specs/ and proofs/; this crate has no code.

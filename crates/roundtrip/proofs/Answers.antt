@@ -1,0 +1,20 @@
+-- Where a call answers, each of its tests holds.
+use Prim.Native.Nat.{ℕ}
+use mathlib.Core.Path.{_≡_, refl}
+use mathlib.Core.Bool.{Bool, true, false}
+use native.Mathlib.Omega.{arith}
+use Rattle.rules.specs.Answer.{Answer, answer, refused, unless}
+
+module _ {A : Type 0} where
+  pub not-answer : {k : ℕ} {v : A} → _≡_ {A = Answer A} (refused k) (answer v) → ⊥
+  not-answer h = let z : _≡_ {A = ℕ} 0 1 = cc in omega arith
+
+  pub unless-test : (k : ℕ) (t : Bool) (a : Answer A) (v : A) → unless k t a ≡ answer v → t ≡ true
+  unfolding unless
+  unless-test k true a v h = refl
+  unless-test k false a v h = absurd (not-answer h)
+
+  pub unless-rest : (k : ℕ) (t : Bool) (a : Answer A) (v : A) → unless k t a ≡ answer v → a ≡ answer v
+  unfolding unless
+  unless-rest k true a v h = h
+  unless-rest k false a v h = absurd (not-answer h)

@@ -1,0 +1,104 @@
+-- A count split into fields by the moduli: the fields are in their limits and add up to the count again.
+use Prim.Native.Nat.{ℕ, _+_, _*_, _/_, _%_, _≤_, _<_}
+use mathlib.Core.Path.{_≡_, refl}
+use mathlib.Core.Bool.{true}
+use mathlib.Core.List.{List, [], _∷_}
+use lib.Dec.{leb}
+use lib.ListN.{length}
+use borrow.Author.Tests.{le-leb, leb-true}
+use native.Mathlib.Nat.{add-sub-cancel, mod-lt, div-add-mod', div-lt-iff-lt-mul, mul-le-mul, mul-pos}
+use native.Mathlib.Omega.{arith}
+use Rattle.base.specs.Scans.{all, product}
+use Rattle.rules.specs.Limits.{largestOffset, largestP, largestField}
+use Rattle.rules.specs.Answer.{Answer, unless}
+use Rattle.rules.specs.Text.{isPresent, firstPresent, ticksOf, sumOf, notAbove, notBelow, eachField}
+use Rattle.rules.specs.Print.{fieldPrint}
+use Rattle.base.proofs.Lists.{all-head, all-tail, product-pos}
+use Rattle.roundtrip.proofs.Digits.{digitsOf, Prints}
+use Rattle.roundtrip.proofs.Fields.{printedFields, field-prints}
+
+-- the moduli and offsets of an accepted layout, or of its later fields
+pub record FieldsFacts (ms os : List ℕ) : Type 0 where
+  pub one-length : length ms ≡ length os
+  pub moduli : all (λ m. leb 1 m) ms ≡ true
+  pub offsets : all (λ o. leb o largestOffset) os ≡ true
+  pub in-range : product ms ≤ largestP
+
+-- what holds of the first field
+pub record FirstFacts (m : ℕ) (ms : List ℕ) (o : ℕ) (os : List ℕ) : Type 0 where
+  pub modulus : 1 ≤ m
+  pub modulus-fits : m ≤ largestP
+  pub offset : o ≤ largestOffset
+  pub unit : 1 ≤ product ms
+  pub later : FieldsFacts ms os
+
+pub first-facts : (m : ℕ) (ms : List ℕ) (o : ℕ) (os : List ℕ) → FieldsFacts (m ∷ ms) (o ∷ os) → FirstFacts m ms o os
+unfolding product
+first-facts m ms o os f =
+    let some = leb-true 1 m (all-head _ m ms (f .moduli)) in
+    let unit = product-pos ms (all-tail _ m ms (f .moduli)) in
+    record {
+      modulus = some;
+      modulus-fits = omega (arith, f .in-range, mul-le-mul {n₁ = m} {m₁ = 1} {n₂ = m} {m₂ = product ms} (omega arith) unit);
+      offset = leb-true o largestOffset (all-head _ o os (f .offsets));
+      unit = unit;
+      later = record {
+        one-length = omega (arith, f .one-length);
+        moduli = all-tail _ m ms (f .moduli);
+        offsets = all-tail _ o os (f .offsets);
+        in-range = omega (arith, f .in-range, mul-le-mul {n₁ = 1} {m₁ = product ms} {n₂ = m} {m₂ = product ms} some (omega arith));
+      };
+    }
+
+-- the first field of a count below the product is below its modulus
+pub quotient-below : (c m : ℕ) (ms : List ℕ) → 1 ≤ product ms → c < product (m ∷ ms) → c / product ms < m
+unfolding product
+quotient-below c m ms u h = div-lt-iff-lt-mul {k = product ms} {x = c} {y = m} u .1 h
+
+pub present : (x : ℕ) (s : List ℕ) → Prints x s → isPresent (digitsOf s) ≡ true
+unfolding digitsOf
+present x [] p = absurd (omega (arith, p .some))
+present x (b ∷ s) p = refl
+
+not-above : (x : ℕ) (s : List ℕ) → Prints x s → x ≤ largestField → notAbove (digitsOf s) ≡ true
+unfolding notAbove
+not-above x s p h = rw (present x s p, p .value, le-leb x largestField h)
+
+not-below : (x : ℕ) (s : List ℕ) (o : ℕ) → Prints x s → o ≤ x → notBelow (digitsOf s) o ≡ true
+unfolding notBelow
+not-below x s o p h = rw (present x s p, p .value, le-leb o x h)
+
+ticks-printed : (v o : ℕ) (s : List ℕ) (unit : ℕ) → Prints (v + o) s → ticksOf (digitsOf s) o unit ≡ v * unit
+unfolding ticksOf
+ticks-printed v o s unit p = rw (present (v + o) s p, p .value, add-sub-cancel)
+
+pub each-printed : (c : ℕ) (ms os : List ℕ) (a : Answer ℕ) → FieldsFacts ms os → c < product ms → eachField (printedFields c ms os) os a ≡ a
+unfolding printedFields eachField unless
+each-printed c [] os a f h = refl
+each-printed c (m ∷ ms) [] a f h = refl
+each-printed c (m ∷ ms) (o ∷ os) a f h =
+    let g = first-facts m ms o os f in
+    let v = c / product ms in
+    let p = field-prints v m o in
+    let low = not-above (v + o) _ p (omega (arith, quotient-below c m ms (g .unit) h)) in
+    rw (low, not-below (v + o) _ o p (omega arith), each-printed (c % product ms) ms os a (g .later) (mod-lt c (g .unit)))
+
+pub sum-printed : (c : ℕ) (ms os : List ℕ) → FieldsFacts ms os → c < product ms → sumOf (printedFields c ms os) ms os ≡ c
+unfolding printedFields sumOf product
+sum-printed c [] os f h = omega arith
+sum-printed c (m ∷ ms) [] f h = absurd (omega (arith, f .one-length))
+sum-printed c (m ∷ ms) (o ∷ os) f h =
+    let g = first-facts m ms o os f in
+    let v = c / product ms in
+    let first = ticks-printed v o (fieldPrint v m o) (product ms) (field-prints v m o) in
+    rw (first, sum-printed (c % product ms) ms os (g .later) (mod-lt c (g .unit))) (div-add-mod' c (product ms))
+
+pub first-printed : (c m : ℕ) (ms : List ℕ) (o : ℕ) (os : List ℕ) → firstPresent (printedFields c (m ∷ ms) (o ∷ os)) ≡ true
+unfolding printedFields
+first-printed c m ms o os = present _ _ (field-prints (c / product ms) m o)
+
+pub length-printed : (c : ℕ) (ms os : List ℕ) → length (printedFields c ms os) ≤ length ms
+unfolding printedFields
+length-printed c [] os = omega arith
+length-printed c (m ∷ ms) [] = omega arith
+length-printed c (m ∷ ms) (o ∷ os) = omega (arith, length-printed (c % product ms) ms os)

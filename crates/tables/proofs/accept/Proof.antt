@@ -1,0 +1,19 @@
+use Rattle.tables.proofs.Table.{unit-divides, all-three, stamps-out, segments-out}
+use borrow.Author.Needs.{needs}
+use Rattle.tables.proofs.accept.Statement.{statement}
+use Rattle.tables.proofs.accept.Tie as tie
+
+pub accept-spec : {M : Type 1} → statement M
+accept-spec =
+    tie.close
+    (tie.spec
+    (λ c κs. search needs)
+    (λ c. search needs)
+    (λ c κs. search needs)
+    (λ c. search needs)
+    (λ c κs. search (unit-divides, needs))
+    (λ c κs. search needs)
+    (λ c. search (all-three, needs))
+    (λ c κs. search needs)
+    (λ c. search (stamps-out, needs))
+    (λ c. search (segments-out, needs)))

@@ -1,0 +1,122 @@
+-- "An older table never misleads about a newer stamp", for any two tables.
+use Prim.Native.Nat.{ℕ, _≤_}
+use native.Mathlib.Omega.{arith}
+use mathlib.Core.Path.{_≡_, refl, ap}
+use mathlib.Core.List.{List}
+use lib.Dec.{leb}
+use lib.IntN.{ℤ}
+use lib.ListN.{length, drop}
+use lib.Seq.{take-append-seam}
+use borrow.Author.Tests.{leb-true, le-leb}
+use Rattle.base.proofs.Tests.{by-test}
+use Rattle.rules.specs.Answer.{Answer, answer, refused, unless, andThen}
+use Rattle.rules.specs.Layout.{layoutOk}
+use Rattle.rules.specs.Partitions.{partitionsOk, endOf, totalOf}
+use Rattle.rules.specs.Stamp.{readStamp, slashIn}
+use Rattle.rules.specs.Print.{fitting, stampPrint, printStamp, lengthPrinted, bufferAfter}
+use Rattle.rules.specs.Time.{accepted, timeOf, countAt}
+use Rattle.versions.specs.Versions.{Table, Accepted, lastIn, Hypothesis, Says, oneOf, Agree, stampRefusals, countRefusals, timeRefusals}
+use Rattle.versions.specs.Versions.{readBy, printBy, timeBy, countBy, Printed, shown, printed, Exception, Apart, olderPrint, newerPrint, Demand3, NeverMisleads}
+use Rattle.versions.proofs.Agreement.{agree-same, agree-refused, agree-unless}
+use Rattle.versions.proofs.Layouts.{OneLayout}
+use Rattle.versions.proofs.Partitions.{KeptPartitions, total-up}
+use Rattle.versions.proofs.Kept.{one-layout, kept-partitions, kept-segments, unit}
+use Rattle.versions.proofs.CountToTime.{time-agrees}
+use Rattle.versions.proofs.TimeToCount.{count-agrees}
+use Rattle.versions.proofs.Reading.{stamp-agrees}
+use Rattle.versions.proofs.Printing.{stamp-same, older-last, newer-next, older-end, newer-start}
+use Rattle.versions.proofs.Numbers.{numbers-differ}
+
+-- an accepted table passes the checks
+module _ (t : Table) (ok : Accepted t) where
+  through-two : {A : Type 0} (a : Answer A) → unless 1 (layoutOk (t .layout)) (unless 2 (partitionsOk (t .layout) (t .partitions)) a) ≡ a
+  unfolding unless
+  through-two a = rw (ok .layout, ok .partitions)
+
+  through-three : {A : Type 0} (a : Answer A) → accepted (t .layout) (t .partitions) (t .segments) a ≡ a
+  unfolding accepted unless
+  through-three a = rw (ok .layout, ok .partitions, ok .segments)
+
+  print-is : (e room : ℕ) → printBy t e room ≡ unless 12 (leb e (totalOf (t .partitions))) (fitting room (stampPrint (t .layout) (t .partitions) e))
+  unfolding printStamp
+  print-is e room = through-two (unless 12 (leb e (totalOf (t .partitions))) (fitting room (stampPrint (t .layout) (t .partitions) e)))
+
+-- what is shown is the print, whatever the buffer held
+only-print : Answer (List ℕ) → Answer Printed
+only-print r = andThen r (λ s. answer (record { returned = length s; bytes = s }))
+
+shown-print : (r : Answer (List ℕ)) (b : List ℕ) → shown r b ≡ only-print r
+unfolding shown only-print andThen lengthPrinted bufferAfter
+shown-print (answer s) b = ap (λ f. answer (record { returned = length s; bytes = f })) (take-append-seam s (drop (length s) b))
+shown-print (refused k) b = refl
+
+module _ (older newer : Table) (was : Accepted older) (is : Accepted newer) (says : (h : Hypothesis) → Says older newer h) where
+  one : OneLayout (older .layout) (newer .layout)
+  one = one-layout older newer was is says
+
+  rows : KeptPartitions (older .partitions) (newer .partitions)
+  rows = kept-partitions older newer was is says
+
+  reads : (s : List ℕ) → Agree stampRefusals (readBy older s) (readBy newer s)
+  unfolding readStamp
+  reads s =
+      rw (through-two older was, through-two newer is)
+      (agree-unless 4 _ (stamp-agrees _ _ _ _ one rows s (slashIn s)))
+
+  times-agree : (e : ℕ) → Agree countRefusals (timeBy older e) (timeBy newer e)
+  unfolding timeOf
+  times-agree e =
+      rw (through-three older was, through-three newer is)
+      (time-agrees _ _ _ _ _ _ one rows (kept-segments older newer was is says) e)
+
+  counts-agree : (t : ℤ) → Agree timeRefusals (countBy older t) (countBy newer t)
+  unfolding countAt
+  counts-agree t =
+      rw (through-three older was, through-three newer is)
+      (agree-unless 14 _ (count-agrees _ _ _ _ _ _ one rows (kept-segments older newer was is says) (unit older newer was is says) t))
+
+  print-same : (e room : ℕ) → e ≤ totalOf (older .partitions) → (Exception older newer e → ⊥) → printBy newer e room ≡ printBy older e room
+  unfolding unless
+  print-same e room b outside =
+      rw (print-is older was, print-is newer is, le-leb e (totalOf (older .partitions)) b, le-leb e (totalOf (newer .partitions)) (omega (arith, total-up _ _ rows)))
+      (ap (fitting room) (stamp-same _ _ _ _ one rows e b (λ t d m. outside (omega arith))))
+
+  prints-agree : (e : ℕ) (b c : List ℕ) → length b ≡ length c → (Exception older newer e → ⊥) → Agree countRefusals (printed older e b) (printed newer e c)
+  unfolding only-print oneOf unless andThen
+  prints-agree e b c same outside =
+      by-test (leb e (totalOf (older .partitions)))
+      (λ y. agree-same (rw (shown-print _ b, shown-print _ c, same, print-same e (length c) (leb-true _ _ y) outside)))
+      (λ n. agree-refused 12 (rw (shown-print _ b, print-is older was, n)) refl)
+
+  module _ (e : ℕ) (x : Exception older newer e) where
+    total : e ≡ totalOf (older .partitions)
+    total = omega arith
+
+    kept-end : endOf (newer .partitions) (lastIn older) ≡ endOf (older .partitions) (lastIn older)
+    kept-end = omega arith
+
+    older-prints : (room : ℕ) → printBy older e room ≡ fitting room (olderPrint older)
+    unfolding stampPrint unless
+    older-prints room =
+        rw
+        (print-is older was, le-leb e (totalOf (older .partitions)) (omega (arith, total)), older-last _ _ rows e total, older-end _ _ rows e total)
+
+    newer-prints : (room : ℕ) → printBy newer e room ≡ fitting room (newerPrint older newer)
+    unfolding stampPrint unless
+    newer-prints room =
+        let fits : e ≤ totalOf (newer .partitions) = omega (arith, total, total-up _ _ rows) in
+        let next = newer-next _ _ rows e total kept-end (omega arith) in
+        rw (print-is newer is, le-leb e (totalOf (newer .partitions)) fits, next, newer-start _ _ rows e total kept-end)
+
+    apart : Apart older newer e
+    apart = record { older-prints = older-prints; newer-prints = newer-prints; differ = numbers-differ _ _ _ }
+
+pub demand-3 : NeverMisleads
+demand-3 older newer was is says =
+    record {
+      reading = reads older newer was is says;
+      printing = prints-agree older newer was is says;
+      exception = apart older newer was is says;
+      time-of = times-agree older newer was is says;
+      count-at = counts-agree older newer was is says;
+    }

@@ -1,0 +1,92 @@
+-- What the hypotheses say, row by row.
+use Prim.Native.Nat.{ℕ, _+_, _≤_, _<_}
+use native.Mathlib.Omega.{arith}
+use native.Mathlib.Nat.{le-trans}
+use mathlib.Core.Path.{_≡_, _∙_}
+use mathlib.Core.Bool.{false}
+use lib.IntN.{pos}
+use lib.ListN.{length, take, length-take}
+use lib.Seq.{getD-take}
+use lib.Signed.{ltZ}
+use borrow.Author.Tests.{ltb-true, lt-ltb}
+use Rattle.base.proofs.Scans.{some-none}
+use Rattle.rules.specs.Facts.{LayoutFacts, PartitionsFacts, SegmentsFacts}
+use Rattle.rules.specs.Partitions.{partitionsIn, endOf, totalOf}
+use Rattle.rules.specs.Segments.{segmentsIn, countOf, timeAt, unitOf, lineAt, stepsBackAt, stepsBack}
+use Rattle.rules.proofs.Accepted.{layout-facts, partitions-facts, segments-facts}
+use Rattle.versions.specs.Versions.{Table, Accepted, lastIn, Hypothesis, Says}
+use Rattle.versions.specs.Versions.{same-n, same-moduli, same-offsets, same-delimiter, kept-starts, kept-ends, last-end, kept-counts, kept-times, kept-rates, further-counts, no-step-back}
+use Rattle.versions.proofs.Lists.{begins-longer, begins-at, all-after}
+use Rattle.versions.proofs.Layouts.{OneLayout, unit-positive}
+use Rattle.versions.proofs.Partitions.{KeptPartitions}
+use Rattle.versions.proofs.Segments.{KeptSegments}
+
+module _ (older newer : Table) (was : Accepted older) (is : Accepted newer) (says : (h : Hypothesis) → Says older newer h) where
+  new-layout : LayoutFacts (newer .layout)
+  new-layout = layout-facts (newer .layout) (is .layout)
+
+  old-partitions : PartitionsFacts (older .layout) (older .partitions)
+  old-partitions = partitions-facts (older .layout) (older .partitions) (was .partitions)
+
+  new-partitions : PartitionsFacts (newer .layout) (newer .partitions)
+  new-partitions = partitions-facts (newer .layout) (newer .partitions) (is .partitions)
+
+  old-segments : SegmentsFacts (older .layout) (older .partitions) (older .segments)
+  old-segments = segments-facts (older .layout) (older .partitions) (older .segments) (was .segments)
+
+  new-segments : SegmentsFacts (newer .layout) (newer .partitions) (newer .segments)
+  new-segments = segments-facts (newer .layout) (newer .partitions) (newer .segments) (is .segments)
+
+  pub one-layout : OneLayout (older .layout) (newer .layout)
+  one-layout =
+      record {
+        fields = says same-n;
+        moduli = rw (says same-n) (says same-moduli);
+        offsets = rw (says same-n) (says same-offsets);
+        delimiter = says same-delimiter;
+      }
+
+  inner-end : (i : ℕ) → i + 1 < partitionsIn (older .partitions) → endOf (newer .partitions) i ≡ endOf (older .partitions) i
+  inner-end i b =
+      let ends = older .partitions .ends in
+      let n : length (take (lastIn older) ends) ≡ lastIn older = length-take (lastIn older) ends ∙ omega (arith, old-partitions .one-length) in
+      begins-at (take (lastIn older) ends) (newer .partitions .ends) i 0 (says kept-ends) (omega arith) ∙ getD-take (lastIn older) ends i 0 (omega arith)
+
+  pub kept-partitions : KeptPartitions (older .partitions) (newer .partitions)
+  kept-partitions =
+      record {
+        some = old-partitions .some;
+        more = begins-longer (older .partitions .starts) (newer .partitions .starts) (says kept-starts);
+        starts = λ i b. begins-at (older .partitions .starts) (newer .partitions .starts) i 0 (says kept-starts) b;
+        ends = inner-end;
+        last-end = omega (arith, says last-end);
+        older-rows = λ i b. old-partitions .each i b .ordered;
+        newer-rows = λ i b. new-partitions .each i b .ordered;
+      }
+
+  pub unit : 1 ≤ unitOf (newer .layout)
+  unit = unit-positive (newer .layout) new-layout
+
+  further : (i : ℕ) → segmentsIn (older .segments) ≤ i → i < segmentsIn (newer .segments) → totalOf (older .partitions) < countOf (newer .segments) i
+  further i b c = let above = all-after _ (newer .segments .counts) _ i (says further-counts) b c in omega (arith, ltb-true)
+
+  forward : (i : ℕ) → i + 1 < segmentsIn (newer .segments)
+      → ltZ (timeAt (newer .segments) (i + 1)) (lineAt (newer .layout) (newer .segments) i (countOf (newer .segments) (i + 1))) ≡ false
+  unfolding stepsBack stepsBackAt
+  forward i b =
+      rw (lt-ltb (i + 1) (segmentsIn (newer .segments)) b)
+      at (some-none (stepsBackAt (newer .layout) (newer .segments)) (segmentsIn (newer .segments)) i (says no-step-back) (omega arith))
+
+  pub kept-segments : KeptSegments (newer .layout) (older .partitions) (older .segments) (newer .segments)
+  kept-segments =
+      record {
+        some = old-segments .some;
+        more = begins-longer (older .segments .counts) (newer .segments .counts) (says kept-counts);
+        counts = λ i b. begins-at (older .segments .counts) (newer .segments .counts) i 0 (says kept-counts) b;
+        times = λ i b. begins-at (older .segments .times) (newer .segments .times) i (pos 0) (says kept-times) (rw (old-segments .times-length) b);
+        rates = λ i b. begins-at (older .segments .rates) (newer .segments .rates) i 0 (says kept-rates) (rw (old-segments .rates-length) b);
+        further = further;
+        grow = λ i b. new-segments .grow i b .times;
+        positive = λ i b. le-trans unit (new-segments .each i b .rate-low);
+        forward = forward;
+      }

@@ -1,0 +1,23 @@
+-- The proof of demand 3, a file for each topic:
+--     Agreement, Lists, Signed                    laws that know nothing of tables
+--     Layouts, Partitions, Segments               what one layout, kept partitions and kept segments give, row by row
+--     CountToTime, TimeToCount, Reading, Printing, Numbers     the four calls after their checks
+--     Kept, Demand3                               from the hypotheses to the rows, and the theorem
+--     Meets, Computing, Needed, Witness           tables that are written out: nothing asked is idle, nor is the theorem empty
+pub mod Agreement
+pub mod Lists
+pub mod Signed
+pub mod Layouts
+pub mod Partitions
+pub mod Segments
+pub mod CountToTime
+pub mod TimeToCount
+pub mod Reading
+pub mod Printing
+pub mod Numbers
+pub mod Kept
+pub mod Demand3
+pub mod Meets
+pub mod Computing
+pub mod Needed
+pub mod Witness

@@ -1,0 +1,45 @@
+-- Demand 3 is not empty, and its exception is needed.
+use Prim.Native.Nat.{ℕ}
+use native.Mathlib.Omega.{arith}
+use mathlib.Core.Path.{_≡_, refl, ap}
+use Rattle.base.proofs.Tests.{not-both}
+use Rattle.rules.specs.Answer.{Answer, answer, refused}
+use Rattle.versions.specs.Versions.{Printed, Demand3}
+use Rattle.versions.specs.Needed.{nine, fourteen, ExceptionNeeded, cutA, tableA, Witness}
+use Rattle.versions.proofs.Meets.{passes-accepted, meets-all, demand-3-by-tests}
+use Rattle.versions.proofs.Computing.{computing}
+
+pub witness : Witness
+unfolding computing
+witness =
+    record {
+      accepted-older = passes-accepted cutA refl;
+      accepted-newer = passes-accepted tableA refl;
+      says = meets-all cutA tableA refl;
+      exception = record { total = refl; kept-end = refl; added = omega arith };
+      older-prints = refl;
+      newer-prints = refl;
+    }
+
+pub demand-3-of-A : Demand3 cutA tableA
+unfolding computing
+demand-3-of-A = demand-3-by-tests cutA tableA refl refl refl
+
+returnedBy : Answer Printed → ℕ
+returnedBy (answer p) = p .returned
+returnedBy (refused k) = 0
+
+pub exception-needed : ExceptionNeeded
+unfolding computing returnedBy
+exception-needed =
+    record {
+      accepted-older = passes-accepted nine refl;
+      accepted-newer = passes-accepted fourteen refl;
+      says = meets-all nine fourteen refl;
+      older-into-four = refl;
+      newer-into-four = refl;
+      not-the-same = λ h. let e : _≡_ {A = ℕ} 3 4 = ap returnedBy (h .same _ refl) in omega arith;
+      older-into-three = refl;
+      newer-into-three = refl;
+      not-refused-12 = λ h. not-both (h .refuses _ 16 refl refl) refl;
+    }

@@ -1,0 +1,3 @@
+-- Demand 3, stated in Versions; Needed states that nothing in it can be left out, and that it is not empty.
+pub mod Versions
+pub mod Needed

@@ -1,0 +1,163 @@
+-- Nothing that is asked of the two tables can be left out: for each hypothesis two small accepted tables that break it alone,
+-- and a question whose two replies break the claim. The exception too can't be left out.
+use Prim.Native.Nat.{ℕ}
+use Prim.Native.String.{String}
+use mathlib.Core.Path.{_≡_}
+use mathlib.Core.List.{List, [], _∷_}
+use lib.IntN.{ℤ, pos}
+use lib.ListN.{length, take, replicate}
+use Rattle.rules.specs.declared.Layout.{Layout}
+use Rattle.rules.specs.Answer.{Answer, answer, refused}
+use Rattle.rules.specs.Partitions.{Partitions, partitions}
+use Rattle.rules.specs.Segments.{Segments, segments}
+use Rattle.rules.specs.Examples.{bytes, layoutA, partitionsA, segmentsA}
+use Rattle.versions.specs.Versions.{Table, Accepted, Hypothesis, Says, readBy, Printed, printed, timeBy, countBy, Agree, countRefusals, Exception, Demand3}
+use Rattle.versions.specs.Versions.{same-n, same-moduli, same-offsets, same-delimiter, kept-starts, kept-ends, last-end, kept-counts, kept-times, kept-rates, further-counts, no-step-back}
+
+-- a clock of n fields: the moduli of the first two, the offset of the first, the delimiter
+abbrev pub clock : ℕ → ℕ → ℕ → ℕ → ℕ → Layout
+clock n first second offset delimiter =
+    record {
+      n = n;
+      moduli = first ∷ second ∷ 0 ∷ 0 ∷ 0 ∷ 0 ∷ 0 ∷ 0 ∷ 0 ∷ 0 ∷ [];
+      offsets = offset ∷ 0 ∷ 0 ∷ 0 ∷ 0 ∷ 0 ∷ 0 ∷ 0 ∷ 0 ∷ 0 ∷ [];
+      delimiter = delimiter;
+    }
+
+abbrev pub table : Layout → Partitions → Segments → Table
+table l p g = record { layout = l; partitions = p; segments = g }
+
+-- The smallest table: modulus 3, partition 0..1, segment (0, 0, 1000). The others are that table with another layout, other partitions, other segments.
+abbrev pub under : Layout → Table
+under l = table l (partitions (0 ∷ []) (1 ∷ [])) (segments (0 ∷ []) (pos 0 ∷ []) (1_000 ∷ []))
+
+abbrev pub smallest : Table
+smallest = under (clock 1 3 1 0 1)
+
+abbrev pub over : List ℕ → List ℕ → Table
+over starts ends = table (smallest .layout) (partitions starts ends) (smallest .segments)
+
+abbrev pub along : List ℕ → List ℤ → List ℕ → Table
+along counts times rates = table (smallest .layout) (smallest .partitions) (segments counts times rates)
+
+pub data Question : Type 0 where
+  stamp : String → Question
+  print : ℕ → Question
+  time : ℕ → Question
+  count : ℤ → Question
+
+pub data Reply : Type 0 where
+  counted : Answer ℕ → Reply
+  shown : Answer Printed → Reply
+  timed : Answer ℤ → Reply
+
+-- printing goes to 96 bytes of 0
+unfoldable pub ask : Table → Question → Reply
+ask t (stamp s) = counted (readBy t (bytes s))
+ask t (print e) = shown (printed t e (replicate 96 0))
+ask t (time e) = timed (timeBy t e)
+ask t (count at) = counted (countBy t at)
+
+abbrev pub countIs : ℕ → Reply
+countIs n = counted (answer n)
+
+abbrev pub timeIs : ℕ → Reply
+timeIs n = timed (answer (pos n))
+
+-- the answer of a print
+abbrev pub prints : String → Answer Printed
+prints s = answer (record { returned = length (bytes s); bytes = bytes s })
+
+abbrev pub printIs : String → Reply
+printIs s = shown (prints s)
+
+pub record Row : Type 0 where
+  pub older : Table
+  pub newer : Table
+  pub asked : Question
+  pub older-says : Reply
+  pub newer-says : Reply
+
+abbrev pub row : Table → Table → Question → Reply → Reply → Row
+row o n q r s = record { older = o; newer = n; asked = q; older-says = r; newer-says = s }
+
+unfoldable pub pair : Hypothesis → Row
+-- another n, modulus, offset, delimiter
+pair same-n = row (under (clock 1 3 1 0 1)) (under (clock 2 3 1 0 1)) (print 1) (printIs "1/1") (printIs "1/1.0")
+pair same-moduli = row (under (clock 1 3 1 0 1)) (under (clock 1 11 1 0 1)) (print 1) (printIs "1/1") (printIs "1/01")
+pair same-offsets = row (under (clock 1 3 1 0 1)) (under (clock 1 3 1 1 1)) (print 1) (printIs "1/1") (printIs "1/2")
+pair same-delimiter = row (under (clock 2 3 1 0 1)) (under (clock 2 3 1 0 2)) (print 1) (printIs "1/1.0") (printIs "1/1:0")
+-- a changed start, a changed inner end, a smaller last end
+pair kept-starts = row (over (0 ∷ []) (2 ∷ [])) (over (1 ∷ []) (2 ∷ [])) (stamp "1/2") (countIs 2) (countIs 1)
+pair kept-ends = row (over (0 ∷ 0 ∷ []) (1 ∷ 1 ∷ [])) (over (0 ∷ 0 ∷ []) (2 ∷ 1 ∷ [])) (print 1) (printIs "2/0") (printIs "1/1")
+pair last-end = row (over (0 ∷ []) (2 ∷ [])) (over (0 ∷ []) (1 ∷ [])) (print 2) (printIs "1/2") (shown (refused 12))
+-- a segment with another count, time, rate
+pair kept-counts = row smallest (along (1 ∷ []) (pos 0 ∷ []) (1_000 ∷ [])) (time 1) (timeIs 1) (timeIs 0)
+pair kept-times = row smallest (along (0 ∷ []) (pos 1 ∷ []) (1_000 ∷ [])) (time 1) (timeIs 1) (timeIs 2)
+pair kept-rates = row smallest (along (0 ∷ []) (pos 0 ∷ []) (2_000 ∷ [])) (time 1) (timeIs 1) (timeIs 2)
+-- a segment at the older's total
+pair further-counts = row smallest (along (0 ∷ 1 ∷ []) (pos 0 ∷ pos 2 ∷ []) (1_000 ∷ 1_000 ∷ [])) (time 1) (timeIs 1) (timeIs 2)
+-- a further segment that the one before it runs past
+pair no-step-back =
+    row
+    smallest
+    (table (clock 1 3 1 0 1) (partitions (0 ∷ 0 ∷ []) (1 ∷ 1 ∷ [])) (segments (0 ∷ 2 ∷ []) (pos 0 ∷ pos 1 ∷ []) (1_000 ∷ 1_000 ∷ [])))
+    (count (pos 1))
+    (countIs 1)
+    (countIs 2)
+
+-- r shows that the hypothesis h is needed: both tables are accepted and meet every other one but not h, and the claim is false of them.
+pub record Needed (h : Hypothesis) (r : Row) : Type 0 where
+  pub accepted-older : Accepted (r .older)
+  pub accepted-newer : Accepted (r .newer)
+  pub others : (k : Hypothesis) → (k ≡ h → ⊥) → Says (r .older) (r .newer) k
+  pub broken : Says (r .older) (r .newer) h → ⊥
+  pub older-replies : ask (r .older) (r .asked) ≡ r .older-says
+  pub newer-replies : ask (r .newer) (r .asked) ≡ r .newer-says
+  pub fails : Demand3 (r .older) (r .newer) → ⊥
+
+-- For the exception, named by their totals: modulus 10, offset 1; partition 0..9, and the newer adds 0..5.
+abbrev pub nine : Table
+nine = table (clock 1 10 1 1 1) (partitions (0 ∷ []) (9 ∷ [])) (smallest .segments)
+
+abbrev pub fourteen : Table
+fourteen = table (clock 1 10 1 1 1) (partitions (0 ∷ 0 ∷ []) (9 ∷ 5 ∷ [])) (smallest .segments)
+
+-- the two tables print 9 into so many bytes
+abbrev pub byNine : ℕ → Answer Printed
+byNine room = printed nine 9 (replicate room 0)
+
+abbrev pub byFourteen : ℕ → Answer Printed
+byFourteen room = printed fourteen 9 (replicate room 0)
+
+-- The exception is needed for both halves of the claim: the two tables meet every hypothesis, and do not agree on 9.
+pub record ExceptionNeeded : Type 0 where
+  pub accepted-older : Accepted nine
+  pub accepted-newer : Accepted fourteen
+  pub says : (h : Hypothesis) → Says nine fourteen h
+  pub older-into-four : byNine 4 ≡ prints "1/10"
+  pub newer-into-four : byFourteen 4 ≡ prints "2/1"
+  pub not-the-same : Agree countRefusals (byNine 4) (byFourteen 4) → ⊥
+  pub older-into-three : byNine 3 ≡ refused 16
+  pub newer-into-three : byFourteen 3 ≡ prints "2/1"
+  pub not-refused-12 : Agree countRefusals (byNine 3) (byFourteen 3) → ⊥
+
+abbrev pub tableA : Table
+tableA = table layoutA partitionsA segmentsA
+
+-- "Table A cut to its first partition and segment"
+abbrev pub cutA : Table
+cutA =
+    table
+    layoutA
+    (partitions (take 1 (partitionsA .starts)) (take 1 (partitionsA .ends)))
+    (segments (take 1 (segmentsA .counts)) (take 1 (segmentsA .times)) (take 1 (segmentsA .rates)))
+
+-- Demand 3 is not empty: the two meet every hypothesis, and printing 500 is "the exception in demand 3".
+pub record Witness : Type 0 where
+  pub accepted-older : Accepted cutA
+  pub accepted-newer : Accepted tableA
+  pub says : (h : Hypothesis) → Says cutA tableA h
+  pub exception : Exception cutA tableA 500
+  pub older-prints : ask cutA (print 500) ≡ printIs "1/50.0"
+  pub newer-prints : ask tableA (print 500) ≡ printIs "2/20.0"

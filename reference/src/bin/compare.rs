@@ -1,0 +1,103 @@
+//! Asks a program that speaks the script protocol fresh random questions and compares its answers with the library's.
+
+use std::io::{Read, Write};
+use std::process::{Command, ExitCode, Stdio};
+
+use reference::generate::{fresh, put_tables};
+use reference::random::Random;
+use reference::script::{answers, Session};
+
+const USAGE: &str = "compare --program PATH --seed S --questions N";
+/// Questions asked of one run of the program.
+const CHUNK: u64 = 25_000;
+
+fn main() -> ExitCode {
+    match run() {
+        Ok(compared) => {
+            println!("{} answers compared, no difference", compared);
+            ExitCode::SUCCESS
+        }
+        Err(report) => {
+            println!("{}", report);
+            ExitCode::FAILURE
+        }
+    }
+}
+
+fn run() -> Result<u64, String> {
+    let (mut program, mut seed, mut questions) = (None, None, None);
+    let mut words = std::env::args().skip(1);
+    while let Some(word) = words.next() {
+        let value = words.next().ok_or(USAGE)?;
+        match word.as_str() {
+            "--program" => program = Some(value),
+            "--seed" => seed = Some(value.parse::<u64>().map_err(|_| USAGE)?),
+            "--questions" => questions = Some(value.parse::<u64>().map_err(|_| USAGE)?),
+            _ => return Err(USAGE.to_string()),
+        }
+    }
+    let (program, seed) = (program.ok_or(USAGE)?, seed.ok_or(USAGE)?);
+    let mut left = questions.ok_or(USAGE)?;
+    let mut seeds = Random::new(seed);
+    let mut compared = 0;
+    while left > 0 {
+        let (chunk_seed, asked) = (seeds.word(), left.min(CHUNK));
+        let script = fresh(chunk_seed, asked);
+        let (expected, given) = ask(&program, &script)?;
+        if expected != given {
+            return Err(format!("chunk seed {}, {} questions\n{}", chunk_seed, asked, difference(&script, &given)));
+        }
+        compared += expected.iter().filter(|&&byte| byte == 10).count() as u64;
+        left -= asked;
+    }
+    Ok(compared)
+}
+
+/// The library's answers and the program's.
+fn ask(program: &str, script: &[u8]) -> Result<(Vec<u8>, Vec<u8>), String> {
+    let failed = |error: std::io::Error| format!("{}: {}", program, error);
+    let mut child = Command::new(program).stdin(Stdio::piped()).stdout(Stdio::piped()).spawn().map_err(failed)?;
+    let mut input = child.stdin.take().ok_or("no input")?;
+    let mut output = child.stdout.take().ok_or("no output")?;
+    let (expected, given) = std::thread::scope(|scope| {
+        // A program that stops reading is found by its answers.
+        scope.spawn(move || input.write_all(script).ok());
+        let expected = scope.spawn(|| answers(script));
+        let mut given = vec![];
+        let read = output.read_to_end(&mut given);
+        (expected.join(), read.map(|_| given))
+    });
+    let status = child.wait().map_err(failed)?;
+    let (expected, given) = (expected.map_err(|_| "the library failed")?, given.map_err(failed)?);
+    if expected == given && !status.success() {
+        return Err(format!("{}: all answers are right, but it ended with {}", program, status));
+    }
+    Ok((expected, given))
+}
+
+/// The first answer that differs, with its question and the tables in force.
+fn difference(script: &[u8], given: &[u8]) -> String {
+    let mut session = Session::new();
+    let mut given = given.split(|&byte| byte == 10);
+    let mut answer = vec![];
+    for (number, line) in script.split(|&byte| byte == 10).enumerate() {
+        answer.clear();
+        session.line(line, &mut answer);
+        if answer.is_empty() {
+            continue;
+        }
+        answer.pop();
+        let other = given.next().unwrap_or(b"no answer");
+        if answer != other {
+            return format!(
+                "{}{}\n# line {} of the chunk\n# the library: {}\n# the program: {}",
+                String::from_utf8_lossy(&put_tables(&session.tables)),
+                String::from_utf8_lossy(line),
+                number + 1,
+                String::from_utf8_lossy(&answer),
+                String::from_utf8_lossy(other),
+            );
+        }
+    }
+    "the program answers more lines than were asked".to_string()
+}

@@ -1,0 +1,139 @@
+//! Changes one rule of the library at a time in a temporary copy, and shows that the answers to the samples differ.
+
+mod list;
+
+use std::fs;
+use std::io;
+use std::path::Path;
+use std::process::{Command, ExitCode, Stdio};
+
+use list::MUTANTS;
+use reference::generate::{script, STORED_COUNT, STORED_SEED};
+use reference::script::answers;
+
+fn main() -> ExitCode {
+    match run() {
+        Ok(report) => {
+            println!("{}", report);
+            ExitCode::SUCCESS
+        }
+        Err(report) => {
+            println!("{}", report);
+            ExitCode::FAILURE
+        }
+    }
+}
+
+/// In reference/, or whatever folder the package is in.
+fn run() -> Result<String, String> {
+    let package = std::env::var("CARGO_MANIFEST_DIR").unwrap_or_else(|_| ".".to_string());
+    let package = Path::new(&package);
+    let stored = package.join("../crates/cases/stdin");
+    let script = fs::read(stored).unwrap_or_else(|_| script(STORED_SEED, STORED_COUNT));
+    let expected = answers(&script);
+    let place = package.join("../target/reference/mutants");
+    let copy = place.join("copy");
+    let _ = fs::remove_dir_all(&copy);
+    let failed = |error: io::Error| format!("mutants: {}", error);
+    fs::create_dir_all(&copy).map_err(failed)?;
+    copy_all(&package.join("src"), &copy.join("src")).map_err(failed)?;
+    for name in ["Cargo.toml", "Cargo.lock"] {
+        fs::copy(package.join(name), copy.join(name)).map_err(failed)?;
+    }
+    let script_path = place.join("script");
+    fs::write(&script_path, &script).map_err(failed)?;
+    // Without a change the copy answers alike.
+    let (unchanged, _) = answers_of(&place, &script_path)?;
+    if unchanged != expected {
+        return Err("mutants: the copy itself answers otherwise".to_string());
+    }
+    let mut alike = vec![];
+    for mutant in MUTANTS {
+        let path = copy.join("src").join(mutant.file);
+        let source = fs::read_to_string(&path).map_err(failed)?;
+        if source.matches(mutant.from).count() != 1 {
+            return Err(format!("mutants: {} has no single place in {}", mutant.name, mutant.file));
+        }
+        fs::write(&path, source.replacen(mutant.from, mutant.to, 1)).map_err(failed)?;
+        let given = answers_of(&place, &script_path).map_err(|error| format!("{}: {}", mutant.name, error));
+        fs::write(&path, &source).map_err(failed)?;
+        let (given, ended) = given?;
+        let differing = differing(&expected, &given);
+        println!("{:<26} {:>6} answers differ{}", mutant.name, differing, if ended { "" } else { ", and it failed" });
+        if differing == 0 {
+            alike.push(mutant.name);
+        }
+    }
+    if alike.is_empty() {
+        Ok(format!("{} mutants, all seen", MUTANTS.len()))
+    } else {
+        Err(format!("{} mutants, not seen: {}", MUTANTS.len(), alike.join(", ")))
+    }
+}
+
+fn copy_all(from: &Path, to: &Path) -> io::Result<()> {
+    fs::create_dir_all(to)?;
+    for entry in fs::read_dir(from)? {
+        let entry = entry?;
+        let (source, target) = (entry.path(), to.join(entry.file_name()));
+        if source.is_dir() {
+            copy_all(&source, &target)?;
+        } else {
+            fs::copy(&source, &target)?;
+        }
+    }
+    Ok(())
+}
+
+/// Builds the copy and answers the script; false if the program failed.
+fn answers_of(place: &Path, script: &Path) -> Result<(Vec<u8>, bool), String> {
+    let failed = |error: io::Error| error.to_string();
+    let built = Command::new(std::env::var("CARGO").unwrap_or_else(|_| "cargo".to_string()))
+        .args(["build", "--quiet", "--offline", "--bin", "answer", "--manifest-path"])
+        .arg(place.join("copy/Cargo.toml"))
+        .arg("--target-dir")
+        .arg(place.join("build"))
+        .env("CARGO_PROFILE_DEV_OVERFLOW_CHECKS", "false")
+        .env("CARGO_PROFILE_DEV_DEBUG_ASSERTIONS", "false")
+        .env("RUSTFLAGS", "-A warnings")
+        .status()
+        .map_err(failed)?;
+    if !built.success() {
+        return Err("does not build".to_string());
+    }
+    let output = Command::new(place.join("build/debug/answer"))
+        .stdin(fs::File::open(script).map_err(failed)?)
+        .stderr(Stdio::null())
+        .output()
+        .map_err(failed)?;
+    Ok((output.stdout, output.status.success()))
+}
+
+/// How many lines are not alike; missing and surplus ones count.
+fn differing(expected: &[u8], given: &[u8]) -> usize {
+    let lines = |answers: &[u8]| answers.split(|&byte| byte == 10).map(<[u8]>::to_vec).collect::<Vec<_>>();
+    let (expected, given) = (lines(expected), lines(given));
+    let alike = expected.iter().zip(&given).filter(|(expected, given)| expected == given).count();
+    expected.len().max(given.len()) - alike
+}
+
+#[cfg(test)]
+mod tests {
+    use super::MUTANTS;
+    use std::collections::BTreeSet;
+    use std::fs::read_to_string;
+
+    /// Each change has its place, and README.md lists it.
+    #[test]
+    fn mutants_are_current() {
+        let readme = read_to_string("README.md").unwrap();
+        let names: BTreeSet<_> = MUTANTS.iter().map(|mutant| mutant.name).collect();
+        assert_eq!(names.len(), MUTANTS.len());
+        for mutant in MUTANTS {
+            let source = read_to_string(["src/", mutant.file].concat()).unwrap();
+            assert_eq!(source.matches(mutant.from).count(), 1, "{}", mutant.name);
+            assert_ne!(mutant.from, mutant.to);
+            assert!(readme.contains(&format!("| {} |", mutant.name)), "README.md lacks {}", mutant.name);
+        }
+    }
+}

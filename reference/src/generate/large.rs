@@ -1,0 +1,74 @@
+//! Tables as long as they may be, and longer.
+
+use super::writer::Writer;
+use crate::script::{Tables, MOST_ENTRIES};
+use crate::{Layout, Partitions, Segments};
+
+const E15: u64 = 1_000_000_000_000_000;
+
+pub fn all(writer: &mut Writer) {
+    let (layout, ..) = crate::table_a();
+    let mut tables = Tables { layout, ..Tables::new() };
+    // 9,999 partitions of 1 to 4 ticks, 9,999 segments of 2 ticks.
+    for row in 0..Partitions::MOST as u64 {
+        tables.start.push(row * 7 % 500);
+        tables.end.push(row * 7 % 500 + 1 + row % 4);
+    }
+    for row in 0..Segments::MOST as u64 - 1 {
+        add_segment(&mut tables, row);
+    }
+    writer.load(&tables);
+    questions(writer, 24);
+    // The 10,000th segment, the 10,001st, and one that the lists do not hold.
+    for row in Segments::MOST as u64 - 1..=MOST_ENTRIES as u64 {
+        add_segment(&mut tables, row);
+        let (count, time, rate) = last(&tables);
+        if row < MOST_ENTRIES as u64 {
+            writer.count(count);
+            writer.time(time);
+            writer.rate(rate);
+        } else {
+            writer.line(format!("count {}", count).as_bytes());
+            writer.line(format!("time {}", time).as_bytes());
+            writer.line(format!("rate {}", rate).as_bytes());
+        }
+        questions(writer, if row == Segments::MOST as u64 - 1 { 24 } else { 5 });
+    }
+    // The same of partitions.
+    for row in Partitions::MOST..=MOST_ENTRIES {
+        if row < MOST_ENTRIES {
+            writer.start(0);
+            writer.end(1);
+        } else {
+            writer.line(b"start 0");
+            writer.line(b"end 1");
+        }
+        questions(writer, 3);
+    }
+    writer.segments(Segments { count: &[0], time: &[0], rate: &[10_000] });
+    questions(writer, 2);
+    // 9,999 lengths of 10^15 - 1, which add up to nearly 10^19.
+    writer.layout(&Layout { n: 1, moduli: [E15; 10], offsets: [0; 10], delimiter: 1 });
+    writer.partitions(Partitions { start: &[0; Partitions::MOST], end: &[E15 - 1; Partitions::MOST] });
+    questions(writer, 3);
+    // Short ones again.
+    writer.partitions(Partitions { start: &[0], end: &[E15 - 1] });
+    questions(writer, 2);
+}
+
+fn add_segment(tables: &mut Tables, row: u64) {
+    tables.count.push(2 * row);
+    tables.time.push(10 * row as i64 + row as i64 % 3 - 50_000);
+    tables.rate.push(10_000 + row % 64 * 300);
+}
+
+fn last(tables: &Tables) -> (u64, i64, u64) {
+    let row = tables.count.len() - 1;
+    (tables.count[row], tables.time[row], tables.rate[row])
+}
+
+fn questions(writer: &mut Writer, each: usize) {
+    for _ in 0..each {
+        writer.each_question();
+    }
+}

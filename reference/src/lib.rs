@@ -1,0 +1,36 @@
+//! An independent second reading of the clock rules: document 01, sentence by sentence, in plain Rust.
+//!
+//! Words in quotation marks in the comments are document 01's. Every public call checks the tables it uses.
+
+// Ranges are written as document 01 writes them.
+#![allow(clippy::manual_range_contains)]
+
+mod double;
+mod layout;
+mod message;
+mod partitions;
+mod print;
+mod program;
+mod segments;
+mod stamp;
+mod text;
+mod time;
+
+pub mod generate;
+pub mod random;
+pub mod script;
+pub mod tally;
+
+pub use double::{back, forward, DoubleSegment};
+pub use layout::Layout;
+pub use message::read_message;
+pub use partitions::Partitions;
+pub use print::{print_count, print_stamp};
+pub use program::{stamp_program, table_a};
+pub use segments::{steps_back, Segments};
+pub use stamp::read_stamp;
+pub use text::read_text;
+pub use time::{count_at, time_of};
+
+/// A number of the table "What is refused". "Each returns its number alone."
+pub type Refusal = u32;

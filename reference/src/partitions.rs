@@ -1,0 +1,80 @@
+//! "Partitions."
+
+use crate::Refusal;
+
+/// "Two lists, start and end".
+#[derive(Clone, Copy, Debug)]
+pub struct Partitions<'a> {
+    pub start: &'a [u64],
+    pub end: &'a [u64],
+}
+
+impl<'a> Partitions<'a> {
+    pub const MOST: usize = 9_999;
+    pub const LARGEST_TOTAL: u64 = 1_000_000_000_000_000;
+
+    /// Refusal 2, or "the sum of lengths, called the total".
+    pub(crate) fn check(self, p: u64) -> Result<u64, Refusal> {
+        // "of one length from 1 to 9,999"
+        let rows = self.start.len();
+        if rows != self.end.len() || rows < 1 || rows > Self::MOST {
+            return Err(2);
+        }
+        // "Each start is below its end, each end is at most P - 1." So each length is below 10^15, and 9,999 of
+        // them cannot wrap.
+        let mut total = 0;
+        for (start, end) in self.rows() {
+            if start >= end || end > p - 1 {
+                return Err(2);
+            }
+            total += end - start;
+        }
+        // "The sum of lengths, called the total, is at most 10^15."
+        if total > Self::LARGEST_TOTAL {
+            return Err(2);
+        }
+        Ok(total)
+    }
+
+    fn rows(self) -> impl Iterator<Item = (u64, u64)> + 'a {
+        self.start.iter().copied().zip(self.end.iter().copied())
+    }
+
+    /// Of checked lists. "The encoded count is the sum of the earlier lengths, plus count, minus start."
+    pub(crate) fn encode(self, named: Option<u64>, count: u64) -> Result<u64, Refusal> {
+        let holds = |i: usize| (self.start[i]..=self.end[i]).contains(&count);
+        let row = match named {
+            Some(number) => {
+                // "partition 0 or above the number there is"
+                if number < 1 || number > self.start.len() as u64 {
+                    return Err(10);
+                }
+                // "count outside the named partition"
+                let row = number as usize - 1;
+                if !holds(row) {
+                    return Err(11);
+                }
+                row
+            }
+            // "Without one, the partition is the first whose start..end, both included, holds the count; refused
+            // exactly if no partition holds it."
+            None => (0..self.start.len()).find(|&row| holds(row)).ok_or(11u32)?,
+        };
+        let earlier: u64 = self.rows().take(row).map(|(start, end)| end - start).sum();
+        Ok(earlier + (count - self.start[row]))
+    }
+
+    /// Of checked lists, for e up to the total: the partition's number and the count in it. "The encoded count e
+    /// belongs to the first partition whose running sum of lengths is above e; the total itself belongs to the last."
+    pub(crate) fn locate(self, e: u64) -> (u64, u64) {
+        let last = self.start.len() - 1;
+        let mut left = e;
+        for (i, (start, end)) in self.rows().enumerate() {
+            if left < end - start || i == last {
+                return (i as u64 + 1, start + left);
+            }
+            left -= end - start;
+        }
+        unreachable!("checked lists are not empty")
+    }
+}

@@ -1,0 +1,135 @@
+//! Answers to lines.
+
+use std::io::{self, Write};
+
+use super::{parse, Line, Question, Tables, LONGEST_LINE, MOST_BYTES, MOST_ENTRIES, MOST_LEN};
+use crate::{
+    back, count_at, forward, print_count, print_stamp, read_message, read_stamp, read_text, steps_back, time_of,
+};
+
+/// Answers a script line by line.
+pub struct Session {
+    pub tables: Tables,
+    buffer: [u8; MOST_BYTES],
+}
+
+impl Session {
+    pub fn new() -> Session {
+        Session { tables: Tables::new(), buffer: [0; MOST_BYTES] }
+    }
+
+    /// One line without its byte 10; its answer, if it has one, is added to the output.
+    pub fn line(&mut self, line: &[u8], output: &mut Vec<u8>) {
+        // "empty lines and lines that begin with `#` are passed over"; an over-long line is bad whatever it begins with.
+        if line.is_empty() || line[0] == b'#' && line.len() <= LONGEST_LINE {
+            return;
+        }
+        let done = match parse(line, &mut self.buffer) {
+            Some(good) => self.tables.take(good, output),
+            None => false,
+        };
+        if !done {
+            output.extend_from_slice(b"bad line\n");
+        }
+    }
+}
+
+impl Default for Session {
+    fn default() -> Session {
+        Session::new()
+    }
+}
+
+impl Tables {
+    /// False for "a 10,002nd entry".
+    fn take(&mut self, line: Line, output: &mut Vec<u8>) -> bool {
+        match line {
+            Line::Layout(layout) => self.layout = layout,
+            Line::Partitions => {
+                self.start.clear();
+                self.end.clear();
+            }
+            Line::Start(value) => return add(&mut self.start, value),
+            Line::End(value) => return add(&mut self.end, value),
+            Line::Segments => {
+                self.count.clear();
+                self.time.clear();
+                self.rate.clear();
+            }
+            Line::Count(value) => return add(&mut self.count, value),
+            Line::Time(value) => return add(&mut self.time, value),
+            Line::Rate(value) => return add(&mut self.rate, value),
+            Line::Ask(question) => self.answer(question, output),
+        }
+        true
+    }
+
+    fn answer(&self, question: Question, output: &mut Vec<u8>) {
+        let (layout, partitions, segments) = (&self.layout, self.partitions(), self.segments());
+        let written = match question {
+            Question::ReadText(text) => plain(output, read_text(layout, text)),
+            Question::ReadStamp(stamp) => plain(output, read_stamp(layout, partitions, stamp)),
+            Question::ReadMessage(message) => plain(output, read_message(layout, partitions, message)),
+            Question::PrintCount { count, fill, len } => {
+                let mut lent = [fill; MOST_LEN];
+                let result = print_count(layout, count, &mut lent[..len]);
+                printed(output, result, &lent[..len])
+            }
+            Question::PrintStamp { e, fill, len } => {
+                let mut lent = [fill; MOST_LEN];
+                let result = print_stamp(layout, partitions, e, &mut lent[..len]);
+                printed(output, result, &lent[..len])
+            }
+            Question::TimeOf(e) => plain(output, time_of(layout, partitions, segments, e)),
+            Question::CountAt(t) => plain(output, count_at(layout, partitions, segments, t)),
+            Question::StepsBack => {
+                let word = steps_back(layout, partitions, segments).map(|yes| if yes { "yes" } else { "no" });
+                plain(output, word)
+            }
+            Question::Forward { segment, msf, given } => plain(output, bits(forward(segment, msf, given))),
+            Question::Back { segment, msf, given } => plain(output, bits(back(segment, msf, given))),
+        };
+        written.expect("a vector takes all bytes");
+    }
+}
+
+fn add<T>(list: &mut Vec<T>, value: T) -> bool {
+    let room = list.len() < MOST_ENTRIES;
+    if room {
+        list.push(value);
+    }
+    room
+}
+
+fn bits(result: Result<f64, u32>) -> Result<String, u32> {
+    result.map(|double| format!("{:016x}", double.to_bits()))
+}
+
+fn plain<T: std::fmt::Display>(output: &mut Vec<u8>, result: Result<T, u32>) -> io::Result<()> {
+    match result {
+        Ok(answer) => writeln!(output, "ok {}", answer),
+        Err(refusal) => writeln!(output, "refused {}", refusal),
+    }
+}
+
+/// With the whole buffer afterwards.
+fn printed(output: &mut Vec<u8>, result: Result<usize, u32>, lent: &[u8]) -> io::Result<()> {
+    match result {
+        Ok(len) => write!(output, "ok {} ", len)?,
+        Err(refusal) => write!(output, "refused {} ", refusal)?,
+    }
+    put_bytes(output, lent);
+    output.push(10);
+    Ok(())
+}
+
+/// Bytes as the script writes them.
+pub fn put_bytes(output: &mut Vec<u8>, bytes: &[u8]) {
+    if bytes.is_empty() {
+        output.push(b'.');
+    }
+    for &byte in bytes {
+        let digit = |value: u8| b"0123456789abcdef"[usize::from(value)];
+        output.extend_from_slice(&[digit(byte >> 4), digit(byte & 15)]);
+    }
+}

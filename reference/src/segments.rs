@@ -1,0 +1,67 @@
+//! "Segments."
+
+use crate::{Layout, Partitions, Refusal};
+
+/// "Three lists [..]: count, time in nanoseconds (signed), rate in picoseconds per first-field count."
+#[derive(Clone, Copy, Debug)]
+pub struct Segments<'a> {
+    pub count: &'a [u64],
+    pub time: &'a [i64],
+    pub rate: &'a [u64],
+}
+
+impl<'a> Segments<'a> {
+    pub const MOST: usize = 10_000;
+    /// Times "lie within ±4×10^18".
+    pub const LATEST: i64 = 4_000_000_000_000_000_000;
+    pub const LARGEST_RATE: u64 = 1_000_000_000_000_000;
+
+    /// Refusal 3, given an accepted layout's MSF and accepted partitions' total.
+    pub(crate) fn check(self, msf: u64, total: u64) -> Result<(), Refusal> {
+        // "of one length, 1 to 10,000"
+        let rows = self.count.len();
+        if rows != self.time.len() || rows != self.rate.len() || rows < 1 || rows > Self::MOST {
+            return Err(3);
+        }
+        let last = rows - 1;
+        for i in 0..rows {
+            // "Times [..] lie within ±4×10^18."
+            if self.time[i] < -Self::LATEST || self.time[i] > Self::LATEST {
+                return Err(3);
+            }
+            // "A rate lies from 1,000×MSF to 10^15"
+            if self.rate[i] < 1_000 * msf || self.rate[i] > Self::LARGEST_RATE {
+                return Err(3);
+            }
+            // "Each segment ends at the next one's count, the last at the total"
+            let end = if i == last { total } else { self.count[i + 1] };
+            // "Counts grow strictly, the last is at most the total. Times grow strictly"
+            let grows =
+                if i == last { self.count[i] <= end } else { self.count[i] < end && self.time[i] < self.time[i + 1] };
+            // "the time reached there by the segment's own line, rounded up, is at most 4×10^18"
+            if !grows || self.line_passes(i, end, Self::LATEST, msf) {
+                return Err(3);
+            }
+        }
+        Ok(())
+    }
+
+    /// Is segment i's line at that count, rounded up, later than that time (not before the segment's)? The line is
+    /// time(i) + rate(i)×(count - count(i)) / (1,000×MSF), and a number rounded up is above a whole number exactly
+    /// if it is above it itself. Both products fit: 2^64 × 10^15 and 8×10^18 × 10^15.
+    fn line_passes(self, i: usize, count: u64, time: i64, msf: u64) -> bool {
+        let reached = u128::from(self.rate[i]) * u128::from(count - self.count[i]);
+        let room = (i128::from(time) - i128::from(self.time[i])) as u128 * u128::from(1_000 * msf);
+        reached > room
+    }
+}
+
+/// "A table steps back if some segment's line, rounded up, at the next segment's count is later than the next
+/// segment's time. Such a table is accepted; a yes/no question tells it, and refuses a bad table like any other call."
+pub fn steps_back(layout: &Layout, partitions: Partitions, segments: Segments) -> Result<bool, Refusal> {
+    let clock = layout.check()?;
+    let total = partitions.check(clock.p)?;
+    segments.check(clock.msf, total)?;
+    let Segments { count, time, .. } = segments;
+    Ok((0..count.len() - 1).any(|i| segments.line_passes(i, count[i + 1], time[i + 1], clock.msf)))
+}

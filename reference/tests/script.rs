@@ -1,0 +1,130 @@
+//! The script protocol.
+
+use reference::script::answers;
+
+fn ask(script: &str) -> String {
+    String::from_utf8(answers(script.as_bytes())).unwrap()
+}
+
+const A: &str = "layout 2 1 100 10 0 0 0 0 0 0 0 0 0 0 0 0 0 0 0 0 0 0
+partitions
+start 0
+end 500
+start 200
+end 900
+segments
+count 0
+count 600
+time -1000
+time 1000
+rate 25000
+rate 30000
+";
+
+fn ask_a(questions: &str) -> String {
+    ask(&[A, questions].concat())
+}
+
+#[test]
+fn each_kind_of_answer() {
+    let answers = ask_a(
+        "read-text 31322e33\nread-stamp 35302e31\nread-message 07d0312f352e330005\nprint-count 7 255 6\n\
+         print-stamp 500 0 8\ntime-of 1\ncount-at -997\nsteps-back\n\
+         forward 0000000000000000 4059000000000000 3ff0000000000000 256 512\n\
+         back 0000000000000000 4059000000000000 3ff0000000000000 256 4059800000000000\n",
+    );
+    let expected = "ok 123\nok 801\nok 53\nok 4 30302e37ffff\nok 6 322f32302e300000\nok -997\nok 1\nok no\n\
+                    ok 4059800000000000\nok 4080000000000000\n";
+    assert_eq!(answers, expected);
+}
+
+#[test]
+fn refusals() {
+    let answers = ask_a(
+        "read-text .\nread-stamp 312f35302e31\nread-message 07d0312f352e330008\nprint-count 1000 1 2\nprint-count 7 255 3\n\
+         print-stamp 500 9 0\nprint-stamp 1201 9 0\ntime-of 1201\ncount-at 2803\ncount-at -1001\n\
+         forward 7ff8000000000001 4059000000000000 3ff0000000000000 256 512\n",
+    );
+    let expected = "refused 6\nrefused 11\nrefused 17\nrefused 9 0101\nrefused 16 ffffff\nrefused 16 .\nrefused 12 .\n\
+                    refused 12\nrefused 14\nrefused 13\nrefused 15\n";
+    assert_eq!(answers, expected);
+}
+
+#[test]
+fn at_the_start_nothing_is_there() {
+    assert_eq!(ask("read-text 31\nprint-stamp 0 1 1\nsteps-back"), "refused 1\nrefused 1 01\nrefused 1\n");
+    assert_eq!(
+        ask("layout 1 1 5 0 0 0 0 0 0 0 0 0 0 0 0 0 0 0 0 0 0 0\nread-text 31\nsteps-back\n"),
+        "ok 1\nrefused 2\n"
+    );
+}
+
+#[test]
+fn lines_that_are_passed_over() {
+    assert_eq!(ask(""), "");
+    assert_eq!(ask("\n\n#\n# read-text 31\n#\n"), "");
+    assert_eq!(ask("#"), "");
+    assert_eq!(ask(" #\n \n"), "bad line\nbad line\n");
+}
+
+#[test]
+fn bad_lines_change_nothing() {
+    let bad = "layout 1 1 5 0 0 0 0 0 0 0 0 0 0 0 0 0 0 0 0 0 0\npartitions \nstart 18446744073709551616\nend -1\n\
+               segments 0\ncount\ntime 9223372036854775808\nrate 1 2\ntime-of  600\nTime-of 600\ntime-of 600\r\n";
+    let questions = ask_a(&[bad, "time-of 600\nprint-stamp 1200 0 6"].concat());
+    assert_eq!(questions, ["bad line\n".repeat(11), "ok 1000\nok 6 322f39302e30\n".to_string()].concat());
+}
+
+#[test]
+fn the_range_of_numbers() {
+    assert_eq!(ask_a("count-at 9223372036854775807\ncount-at -9223372036854775808"), "refused 14\nrefused 14\n");
+    assert_eq!(ask_a("count-at 9223372036854775808\ncount-at -9223372036854775809"), "bad line\nbad line\n");
+    assert_eq!(ask_a("time-of 18446744073709551615\ntime-of 18446744073709551616"), "refused 12\nbad line\n");
+    assert_eq!(ask_a("time-of 000000000000000000000000000600\ncount-at -00997"), "ok 1000\nok 1\n");
+    assert_eq!(ask_a("time-of -1\ntime-of +1\ncount-at +1\ncount-at -\ncount-at --1"), "bad line\n".repeat(5));
+    assert_eq!(
+        ask_a("print-count 1 256 4\nprint-count 1 255 257\nprint-count 1 255 1"),
+        "bad line\nbad line\nrefused 16 ff\n"
+    );
+    let whole = ask_a("print-count 1 255 256");
+    assert_eq!(whole, format!("ok 4 30302e31{}\n", "ff".repeat(252)));
+}
+
+#[test]
+fn bytes_and_doubles() {
+    for bad in ["3", "313", "3A", "3g", "", ".31", "..", "31 "] {
+        assert_eq!(ask_a(&format!("read-text {}", bad)), "bad line\n", "{}", bad);
+    }
+    assert_eq!(ask_a(&format!("read-text {}", "31".repeat(2_000))), "refused 4\n");
+    assert_eq!(ask_a(&format!("read-text {}", "31".repeat(2_001))), "bad line\n");
+    for bad in ["000000000000000", "00000000000000000", "7FF0000000000000", "000000000000000g", "."] {
+        assert_eq!(ask(&format!("back {} 0000000000000000 3ff0000000000000 1 0000000000000000", bad)), "bad line\n");
+    }
+    for nan in ["7ff8000000000000", "7ff0000000000001", "ffffffffffffffff", "fff8000000000000"] {
+        assert_eq!(ask(&format!("back 0000000000000000 0000000000000000 3ff0000000000000 1 {}", nan)), "refused 15\n");
+    }
+}
+
+#[test]
+fn long_lines() {
+    let line = |len: usize| ["time-of ", &"0".repeat(len - 11), "600"].concat();
+    assert_eq!(ask_a(&line(8_192)), "ok 1000\n");
+    assert_eq!(ask_a(&[&line(8_192), "\ntime-of 1\n"].concat()), "ok 1000\nok -997\n");
+    assert_eq!(ask_a(&line(8_193)), "bad line\n");
+    for len in [8_193, 8_194, 16_385, 16_386, 16_387, 100_000] {
+        assert_eq!(ask_a(&[&line(len), "\ntime-of 1\n"].concat()), "bad line\nok -997\n", "{}", len);
+    }
+}
+
+#[test]
+fn a_list_holds_10_001_entries() {
+    for (list, empty) in
+        [("start 5", "partitions"), ("end 5", "partitions"), ("time -5", "segments"), ("rate 5", "segments")]
+    {
+        let lines = [list, "\n"].concat();
+        assert_eq!(ask(&lines.repeat(10_001)), "");
+        assert_eq!(ask(&lines.repeat(10_002)), "bad line\n");
+        assert_eq!(ask(&[lines.repeat(10_001), format!("{}\n", empty), lines.repeat(10_002)].concat()), "bad line\n");
+    }
+    assert_eq!(ask(&"count 5\n".repeat(10_003)), "bad line\nbad line\n");
+}
