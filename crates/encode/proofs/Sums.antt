@@ -1,9 +1,8 @@
 -- The running sum of lengths, and where a search for a partition ends.
 use Prim.Native.Nat.{ℕ, _+_, _-_, _≤_, _<_}
-use mathlib.Core.Path.{_≡_, refl, sym, ap, _∙_}
+use mathlib.Core.Path.{_≡_, sym, _∙_}
 use mathlib.Core.Bool.{Bool, true, false, _&&_}
 use mathlib.Core.List.{List}
-use mathlib.Core.Option.{Option, none, some}
 use lib.Dec.{leb}
 use lib.ListN.{length, getD}
 use native.Mathlib.Omega.{arith}
@@ -11,13 +10,13 @@ use mir.Syntax.{w64}
 use mir.Val.{Fits}
 use borrow.Author.Count.{below-more}
 use borrow.Author.Tests.{leb-true, le-leb, lt-leb}
-use Rattle.base.proofs.Tests.{and-first, and-second, and-both, and-out-first, and-out-second}
-use Rattle.base.proofs.Scans.{First, first-is, first-none, sum-start, sum-next, sum-up}
+use Rattle.base.proofs.Tests.{and-first, and-second, and-out-second}
+use Rattle.base.proofs.Scans.{first-is, first-none, sum-start, sum-next, sum-up}
 use Rattle.rules.specs.Limits.{largestTotal}
 use Rattle.rules.specs.declared.Layout.{Layout}
-use Rattle.rules.specs.Partitions.{Partitions, partitions, partitionsIn, startOf, endOf, lengthOf, lengthsBefore, totalOf}
+use Rattle.rules.specs.Partitions.{Partitions, partitions, lengthOf, lengthsBefore, totalOf}
 use Rattle.rules.specs.Facts.{PartitionsFacts}
-use Rattle.rules.specs.Answer.{Answer, answer, refused, unless}
+use Rattle.rules.specs.Answer.{answer, refused, unless}
 use Rattle.rules.specs.Stamp.{holds, encodedIn, encodeNamed, encodeFound, encodeFirst}
 use Rattle.encode.specs.Listed.{Listed}
 

@@ -1,12 +1,12 @@
 -- The pass over fields ends in the count of rules' specs/Text.antt: the same refusal, or the same sum.
-use Prim.Native.Nat.{ℕ, _+_, _-_, _*_, _≤_, _<_, min}
+use Prim.Native.Nat.{ℕ, _+_, _*_, _≤_, _<_, min}
 use mathlib.Core.Path.{_≡_, refl, sym, ap, _∙_}
 use mathlib.Core.Bool.{Bool, true, false, cond, _||_}
 use mathlib.Core.List.{List, [], _∷_}
 use lib.Dec.{leb, ltb, eqb}
 use lib.ListN.{length, getD, take, drop}
 use lib.Seq.{take-all, take-length, take-take, length-take-le}
-use borrow.Author.Tests.{le-leb, lt-leb, leb-true, leb-false, lt-ltb, eq-eqb, eqb-true, eqb-false}
+use borrow.Author.Tests.{le-leb, lt-leb, leb-true, leb-false, lt-ltb, eqb-true, eqb-false}
 use native.Mathlib.Nat.{add-mul, mul-assoc, zero-mul, zero-add, add-zero, le-refl}
 use native.Mathlib.Omega.{arith}
 use Rattle.base.specs.Scans.{product}
@@ -164,11 +164,11 @@ module _ (ms os : List ℕ) (e : length os ≡ length ms) where
       let p = filled k sum fault f in
       by-test (leb (length ms) (k + 1))
       (λ t. let l = leb-true (length ms) (k + 1) t in
-      ap (λ (q : Pass). total ms os (over ms os (q .field) (q .sum) (q .fault) g fs)) (sym (next-none ms os p l))
+      ap (λ (q : Pass). total ms os (over ms os (q .field) (q .sum) (q .fault) g fs)) (sym (next-none ms os p _ l refl))
       ∙ stuck fs k 0 g
       ∙ sym (too-many k sum fault acc f h c g fs l))
       (λ n. let l = leb-false (length ms) (k + 1) n in
-      ap (λ (q : Pass). total ms os (over ms os (q .field) (q .sum) (q .fault) g fs)) (sym (next-one ms os p _ _ l refl refl))
+      ap (λ (q : Pass). total ms os (over ms os (q .field) (q .sum) (q .fault) g fs)) (sym (next-one ms os p _ _ _ l refl refl refl))
       ∙ counts fs (k + 1) _ _ _ g l (sum-with k sum fault acc f h c)
       ∙ goes-on k sum fault acc f h c g fs)
 

@@ -4,8 +4,7 @@ use mathlib.Core.Path.{_≡_, refl, sym, ap, _∙_}
 use mathlib.Core.Bool.{Bool, true, false, cond}
 use mathlib.Core.List.{List, [], _∷_, _++_, append-assoc, append-nil}
 use lib.Dec.{leb}
-use lib.ListN.{length, getD}
-use native.Mathlib.Omega.{arith}
+use lib.ListN.{length}
 use Rattle.base.proofs.Tests.{by-test}
 use Rattle.rules.specs.Text.{
   Symbol,
@@ -32,7 +31,7 @@ use Rattle.rules.specs.Text.{
 }
 use Rattle.fields.specs.declared.Pass.{Pass}
 use Rattle.fields.specs.Pass as pass
-use Rattle.fields.specs.Pass.{fieldCap, sumWith, faultWith, ticksIn, faultIn, begun, digitIn, withBlank, surplus, next, step}
+use Rattle.fields.specs.Pass.{fieldCap, sumWith, faultWith, ticksIn, faultIn, begun, digitIn, withBlank, fresh, next, step}
 use Rattle.fields.proofs.Steps.{cond-yes, cond-no, after-gap, no-gap}
 use Rattle.fields.proofs.Caps.{cap-mul-add}
 
@@ -125,14 +124,13 @@ module _ (ms os : List ℕ) where
   from k sum fault ds [] = over k sum fault ds []
   from k sum fault ds (f ∷ fs) = over k sum fault (ds ++ f) fs
 
-  module _ (p : Pass) where
-    next-shape : next ms os p ≡ passOf (next ms os p .field) false false 0 (next ms os p .sum) (next ms os p .fault)
-    unfolding next
-    next-shape = shape (leb (length ms) (p .field + 1)) _ _ refl refl
-      where
-        shape : (t : Bool) (a b : Pass) → a ≡ passOf (a .field) false false 0 (a .sum) (a .fault) → b ≡ passOf (b .field) false false 0 (b .sum) (b .fault) → cond t a b ≡ passOf ((cond t a b) .field) false false 0 ((cond t a b) .sum) ((cond t a b) .fault)
-        shape true a b e f = e
-        shape false a b e f = f
+  next-shape : (p : Pass) → next ms os p ≡ fresh (next ms os p .field) (next ms os p .sum) (next ms os p .fault)
+  unfolding next
+  next-shape p = shape (leb (length ms) (p .field + 1)) _ _ refl refl
+    where
+      shape : (t : Bool) (a b : Pass) → a ≡ fresh (a .field) (a .sum) (a .fault) → b ≡ fresh (b .field) (b .sum) (b .fault) → cond t a b ≡ fresh ((cond t a b) .field) ((cond t a b) .sum) ((cond t a b) .fault)
+      shape true a b e f = e
+      shape false a b e f = f
 
   -- what the pass gives for the bytes s, after the digits ds of the field k
   abbrev Read : List ℕ → Type 0
@@ -218,7 +216,7 @@ module _ (ms os : List ℕ) where
       mark-reads m w k v sum fault ds e f =
           let r = between-some (symbolsFrom edge s) in
           let q = then k sum fault ds in
-          goes (passOf k (presentIn w) (gapIn w) v sum fault) (passOf (q .field) false false 0 (q .sum) (q .fault)) k sum fault ds w (mark ∷ symbolsFrom edge s) _
+          goes (passOf k (presentIn w) (gapIn w) v sum fault) (fresh (q .field) (q .sum) (q .fault)) k sum fault ds w (mark ∷ symbolsFrom edge s) _
           (step-mark _ b n m ∙ next-is (gapIn w) (presentIn w) k v sum fault ds e f ∙ next-shape (filled k sum fault ds))
           (symbols-mark w b s n m)
           (ih edge (q .field) 0 (q .sum) (q .fault) [] refl refl)

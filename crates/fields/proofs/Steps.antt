@@ -1,8 +1,8 @@
 -- The steps of the pass as the code takes them: one law for each way out.
 use Prim.Native.Nat.{ℕ, _+_, _-_, _*_, _≤_, _<_, min}
 use mathlib.Core.Path.{_≡_, refl, sym, ap, _∙_}
-use mathlib.Core.Bool.{Bool, true, false, cond, _&&_, _||_}
-use mathlib.Core.List.{List, [], _∷_}
+use mathlib.Core.Bool.{Bool, true, false, cond, _||_}
+use mathlib.Core.List.{List}
 use lib.Dec.{leb, eqb}
 use lib.ListN.{length, getD, drop, drop-of-length-le}
 use borrow.Author.Tests.{le-leb, lt-leb, leb-true, leb-false, eq-eqb, ne-eqb}
@@ -15,7 +15,7 @@ use Rattle.rules.specs.Answer.{answer, refused, unless}
 use Rattle.rules.specs.Text.{isDigit, isMark, isBlank, isAllowed}
 use Rattle.fields.specs.declared.Pass.{Pass}
 use Rattle.fields.specs.declared.Scanned.{Scanned}
-use Rattle.fields.specs.Pass.{sumCap, sumWith, faultWith, digitIn, withBlank, surplus, next, withDigit, step, scanFrom, sumIn, total}
+use Rattle.fields.specs.Pass.{sumCap, begun, sumWith, faultWith, digitIn, withBlank, fresh, next, withDigit, step, scanFrom, sumIn, total}
 
 pub digit-at-least : (b : ℕ) (t : Bool) → t ≡ isDigit b → t ≡ true → 48 ≤ b
 digit-at-least b t e h = leb-true 48 b (and-first (leb 48 b) (leb b 57) (sym e ∙ h))
@@ -31,13 +31,13 @@ module _ {A : Type 0} {b : Bool} (x y : A) where
   cond-no f = rw f
 
 module _ (ms os : List ℕ) where
-  pub next-none : (p : Pass) → length ms ≤ p .field + 1 → surplus (p .field) ≡ next ms os p
+  pub next-none : (p r : Pass) → length ms ≤ p .field + 1 → r ≡ fresh (p .field) 0 7 → r ≡ next ms os p
   unfolding next
-  next-none p h = rw (le-leb (length ms) (p .field + 1) h)
+  next-none p r h e = rw (le-leb (length ms) (p .field + 1) h) e
 
-  pub next-one : (p : Pass) (a b : ℕ) → p .field + 1 < length ms → a ≡ sumWith p (getD ms (p .field) 0) (getD os (p .field) 0) → b ≡ faultWith p (getD os (p .field) 0) → _≡_ {A = Pass} (record { field = p .field + 1; present = false; gap = false; value = 0; sum = a; fault = b }) (next ms os p)
+  pub next-one : (p r : Pass) (a b : ℕ) → p .field + 1 < length ms → a ≡ sumWith p (getD ms (p .field) 0) (getD os (p .field) 0) → b ≡ faultWith p (getD os (p .field) 0) → r ≡ fresh (p .field + 1) a b → r ≡ next ms os p
   unfolding next
-  next-one p a b h e f = rw (e, f, lt-leb (length ms) (p .field + 1) h)
+  next-one p r a b h f g e = rw (lt-leb (length ms) (p .field + 1) h, ← f, ← g) e
 
   pub after-gap : (p q : Pass) (d : ℕ) → p .gap ≡ true → q ≡ next ms os p → digitIn q d ≡ withDigit ms os p d
   unfolding withDigit
@@ -63,7 +63,13 @@ module _ (ms os : List ℕ) where
   pub blank-field : (p q : Pass) → p .field < length ms → q ≡ withBlank p → q .field < length ms
   blank-field p q h e = rw e h
 
-  -- the loop's turns, and its ways out
+  -- the loop's start, its turns, and its ways out
+  pub fresh-field-first : (p : Pass) → 1 ≤ length ms → p ≡ begun → p .field < length ms
+  fresh-field-first p h e = rw e h
+
+  pub fresh-scan : (s : List ℕ) (i : ℕ) (p : Pass) → p ≡ begun → scanFrom ms os begun i (drop i s) ≡ scanFrom ms os p i (drop i s)
+  fresh-scan s i p e = ap (λ (q : Pass). scanFrom ms os q i (drop i s)) (sym e)
+
   module _ (s : List ℕ) (p : Pass) (i : ℕ) (h : i < length s) (w : Scanned) (e : w ≡ scanFrom ms os p i (drop i s)) where
     turn : (q : Pass) → isAllowed (getD s i 0) ≡ true → q ≡ step ms os p (getD s i 0) → w ≡ scanFrom ms os q (i + 1) (drop (i + 1) s)
     unfolding scanFrom

@@ -1,16 +1,15 @@
 -- Where the scan stops, and what the pass then tells of the text.
-use Prim.Native.Nat.{ℕ, zero, suc, _+_, _-_, _≤_, _<_, zero-le, min}
+use Prim.Native.Nat.{ℕ, zero, suc, _+_, _≤_, _<_, zero-le}
 use mathlib.Core.Path.{_≡_, refl, sym, ap, subst, _∙_}
-use mathlib.Core.Bool.{Bool, true, false, cond, _&&_}
+use mathlib.Core.Bool.{Bool, true, false}
 use mathlib.Core.List.{List, [], _∷_}
-use lib.Dec.{leb, eqb}
 use lib.ListN.{length, getD, take, drop, length-drop}
-use lib.Seq.{take-all, getD-drop}
+use lib.Seq.{take-all}
 use native.Mathlib.Nat.{add-zero}
 use native.Mathlib.Omega.{arith}
 use Rattle.base.specs.Scans.{all}
 use Rattle.base.proofs.Tests.{by-test, and-both, and-out-first, and-out-second}
-use Rattle.rules.specs.Text.{isAllowed, isDigit, isBlank, isMark}
+use Rattle.rules.specs.Text.{isAllowed}
 use Rattle.fields.specs.declared.Pass.{Pass}
 use Rattle.fields.specs.declared.Scanned.{Scanned}
 use Rattle.fields.specs.Pass.{begun, step, scanFrom}

@@ -19,9 +19,13 @@ fieldCap = largestField + 1
 abbrev pub sumCap : ℕ
 sumCap = largestCount + 1
 
+-- a field of which no digit was met
+abbrev pub fresh : ℕ → ℕ → ℕ → Pass
+fresh k s f = record { field = k; present = false; gap = false; value = 0; sum = s; fault = f }
+
 -- before the first byte
 abbrev pub begun : Pass
-begun = record { field = 0; present = false; gap = false; value = 0; sum = 0; fault = 0 }
+begun = fresh 0 0 0
 
 -- what is wrong with a field of the value v and the offset o; 0 for nothing
 unfoldable pub valueFault : ℕ → ℕ → ℕ
@@ -53,28 +57,17 @@ abbrev pub withBlank : Pass → Pass
 withBlank p =
     record { field = p .field; present = p .present; gap = p .present; value = p .value; sum = p .sum; fault = p .fault }
 
--- more than n fields, the last of them the field given
-abbrev pub surplus : ℕ → Pass
-surplus k = record { field = k; present = false; gap = false; value = 0; sum = 0; fault = 7 }
-
 -- one field so far, and digits in it: a front part that is a number
 unfoldable pub alone : Pass → Bool
 alone p = eqb (p .field) 0 && eqb (p .fault) 0 && p .present
 
 module _ (ms os : List ℕ) where
-  -- a mark: the next field, where there is one
+  -- a mark: the next field, or 7 where there is none
   unfoldable pub next : Pass → Pass
   next p =
       cond (leb (length ms) (p .field + 1))
-      (surplus (p .field))
-      (record {
-        field = p .field + 1;
-        present = false;
-        gap = false;
-        value = 0;
-        sum = sumWith p (getD ms (p .field) 0) (getD os (p .field) 0);
-        fault = faultWith p (getD os (p .field) 0);
-      })
+      (fresh (p .field) 0 7)
+      (fresh (p .field + 1) (sumWith p (getD ms (p .field) 0) (getD os (p .field) 0)) (faultWith p (getD os (p .field) 0)))
 
   -- a digit: after a gap it stands in the next field
   unfoldable pub withDigit : Pass → ℕ → Pass

@@ -1,11 +1,11 @@
 // Clock text in one pass over its bytes: digits and marks to fields, fields to the count.
 ghost use mathlib.Core.Path.{_≡_};
 ghost use Prim.Native.Nat.{_+_, _*_, _-_, _≤_, _<_, min};
-ghost use lib.ListN.{length, getD, drop};
+ghost use lib.ListN.{length, drop};
 ghost use Rattle.base.specs.Scans.{product};
-ghost use Rattle.rules.specs.Text.{isDigit, isBlank, isMark, isAllowed};
+ghost use Rattle.rules.specs.Text.{isDigit, isMark};
 ghost use Rattle.rules.specs.Answer.{countAnswer};
-ghost use Rattle.fields.specs.Pass.{fieldCap, sumCap, begun, valueFault, faultIn, faultWith, ticksIn, sumWith, surplus, next, digitIn, withDigit, withBlank, alone, scanFrom, sumIn, total};
+ghost use Rattle.fields.specs.Pass.{fieldCap, sumCap, begun, valueFault, faultIn, faultWith, ticksIn, sumWith, fresh, next, digitIn, withDigit, withBlank, alone, scanFrom, total};
 use rules::CountAnswer;
 use rules::Layout;
 
@@ -41,14 +41,7 @@ pub fn scan(moduli: &[u64], offsets: &[u64], text: &[u8], from: usize) -> Scanne
     ensures { λ r. ⌜ r ≡ scanFrom (now (moduli .entry)) (now (offsets .entry)) begun from (drop from (now (text .entry))) ⌝ }
     ensures { λ r. ⌜ r .pass .field < length (now (moduli .entry)) ⌝ }
 {
-    let mut pass = Pass {
-        field: 0,
-        present: false,
-        gap: false,
-        value: 0,
-        sum: 0,
-        fault: 0,
-    };
+    let mut pass = fresh_field(0, 0, 0);
     let mut at = from;
     while at < text.len() {
         let byte = text[at];
@@ -66,6 +59,37 @@ pub fn scan(moduli: &[u64], offsets: &[u64], text: &[u8], from: usize) -> Scanne
         }
     }
     Scanned { at, pass }
+}
+
+// The count of a pass that reached the end of the text.
+pub fn count(moduli: &[u64], offsets: &[u64], pass: Pass) -> CountAnswer
+    requires { ⌜ (pass .field < length (now moduli)) × (length (now offsets) ≡ length (now moduli)) ⌝ }
+    ensures { λ r. ⌜ countAnswer r ≡ total (now (moduli .entry)) (now (offsets .entry)) pass ⌝ }
+{
+    let field = pass.field;
+    let offset = offsets[field];
+    let fault = fault_with(pass, offset);
+    if fault != 0 {
+        return CountAnswer::Refused(fault);
+    }
+    let sum = in_ticks(moduli, field + 1, sum_with(pass, moduli[field], offset));
+    if Layout::LARGEST_P < sum {
+        return CountAnswer::Refused(refusals::TOO_LARGE);
+    }
+    CountAnswer::Count(sum)
+}
+
+// Whether the pass met one field, with digits in it.
+pub fn is_number(pass: Pass) -> bool
+    ensures { λ r. ⌜ r ≡ alone pass ⌝ }
+{
+    if pass.field != 0 {
+        return false;
+    }
+    if pass.fault != 0 {
+        return false;
+    }
+    pass.present
 }
 
 // After a gap a digit stands in the next field.
@@ -92,20 +116,7 @@ fn digit_in(pass: Pass, d: u8) -> Pass
     }
 }
 
-// Blanks open a gap only after a digit.
-fn with_blank(pass: Pass) -> Pass
-    ensures { λ r. ⌜ r ≡ withBlank pass ⌝ }
-{
-    Pass {
-        field: pass.field,
-        present: pass.present,
-        gap: pass.present,
-        value: pass.value,
-        sum: pass.sum,
-        fault: pass.fault,
-    }
-}
-
+// Ten times the value and one more digit.
 fn next_value(value: u64, d: u8) -> u64
     ensures { λ r. ⌜ r ≡ min (value * 10 + d) fieldCap ⌝ }
 {
@@ -125,39 +136,60 @@ fn widened(x: u8) -> u64
     x as u64
 }
 
+// Blanks open a gap only after a digit.
+fn with_blank(pass: Pass) -> Pass
+    ensures { λ r. ⌜ r ≡ withBlank pass ⌝ }
+{
+    Pass {
+        field: pass.field,
+        present: pass.present,
+        gap: pass.present,
+        value: pass.value,
+        sum: pass.sum,
+        fault: pass.fault,
+    }
+}
+
+// A mark: the field at hand ends.
 fn next_field(moduli: &[u64], offsets: &[u64], pass: Pass) -> Pass
     requires { ⌜ (pass .field < length (now moduli)) × (length (now offsets) ≡ length (now moduli)) ⌝ }
     ensures { λ r. ⌜ r ≡ next (now (moduli .entry)) (now (offsets .entry)) pass ⌝ }
 {
     let field = pass.field;
     if moduli.len() <= field + 1 {
-        return Pass {
-            field,
-            present: false,
-            gap: false,
-            value: 0,
-            sum: 0,
-            fault: refusals::TOO_MANY_FIELDS,
-        };
+        return fresh_field(field, 0, refusals::TOO_MANY_FIELDS);
     }
     let modulus = moduli[field];
     let offset = offsets[field];
+    fresh_field(
+        field + 1,
+        sum_with(pass, modulus, offset),
+        fault_with(pass, offset),
+    )
+}
+
+// A field of which no digit was met.
+fn fresh_field(field: usize, sum: u64, fault: u64) -> Pass
+    ensures { λ r. ⌜ r ≡ fresh field sum fault ⌝ }
+{
     Pass {
-        field: field + 1,
+        field,
         present: false,
         gap: false,
         value: 0,
-        sum: sum_with(pass, modulus, offset),
-        fault: fault_with(pass, offset),
+        sum,
+        fault,
     }
 }
 
+// The ticks with those of the field at hand.
 fn sum_with(pass: Pass, modulus: u64, offset: u64) -> u64
     ensures { λ r. ⌜ r ≡ sumWith pass modulus offset ⌝ }
 {
     wide::mul_add_capped(pass.sum, modulus, ticks_in(pass, offset), SUM_CAP)
 }
 
+// A missing field adds no ticks, whatever its offset.
 fn ticks_in(pass: Pass, offset: u64) -> u64
     ensures { λ r. ⌜ r ≡ ticksIn pass offset ⌝ }
 {
@@ -167,6 +199,7 @@ fn ticks_in(pass: Pass, offset: u64) -> u64
     0
 }
 
+// `a - b`, or 0 where b is above it.
 fn less(a: u64, b: u64) -> u64
     ensures { λ r. ⌜ r ≡ a - b ⌝ }
 {
@@ -176,6 +209,21 @@ fn less(a: u64, b: u64) -> u64
     a - b
 }
 
+// `sum` times the moduli from the field `from` on.
+fn in_ticks(moduli: &[u64], from: usize, sum: u64) -> u64
+    requires { ⌜ (from ≤ length (now moduli)) × (sum ≤ sumCap) ⌝ }
+    ensures { λ r. ⌜ r ≡ min (sum * product (drop from (now (moduli .entry)))) sumCap ⌝ }
+{
+    let mut ticks = sum;
+    let mut i = from;
+    while i < moduli.len() {
+        ticks = wide::mul_capped(ticks, moduli[i], SUM_CAP);
+        i += 1;
+    }
+    ticks
+}
+
+// The first refusal with that of the field at hand.
 fn fault_with(pass: Pass, offset: u64) -> u64
     ensures { λ r. ⌜ r ≡ faultWith pass offset ⌝ }
 {
@@ -197,6 +245,7 @@ fn fault_in(pass: Pass, offset: u64) -> u64
     0
 }
 
+// Of a field that is there.
 fn value_fault(value: u64, offset: u64) -> u64
     ensures { λ r. ⌜ r ≡ valueFault value offset ⌝ }
 {
@@ -231,49 +280,4 @@ fn is_mark(byte: u8) -> bool
         return true;
     }
     byte == b'-'
-}
-
-// Whether the pass met one field, with digits in it.
-pub fn is_number(pass: Pass) -> bool
-    ensures { λ r. ⌜ r ≡ alone pass ⌝ }
-{
-    if pass.field != 0 {
-        return false;
-    }
-    if pass.fault != 0 {
-        return false;
-    }
-    pass.present
-}
-
-// The count of a pass that reached the end of the text.
-pub fn count(moduli: &[u64], offsets: &[u64], pass: Pass) -> CountAnswer
-    requires { ⌜ (pass .field < length (now moduli)) × (length (now offsets) ≡ length (now moduli)) ⌝ }
-    ensures { λ r. ⌜ countAnswer r ≡ total (now (moduli .entry)) (now (offsets .entry)) pass ⌝ }
-{
-    let field = pass.field;
-    let offset = offsets[field];
-    let fault = fault_with(pass, offset);
-    if fault != 0 {
-        return CountAnswer::Refused(fault);
-    }
-    let sum = in_ticks(moduli, field + 1, sum_with(pass, moduli[field], offset));
-    if Layout::LARGEST_P < sum {
-        return CountAnswer::Refused(refusals::TOO_LARGE);
-    }
-    CountAnswer::Count(sum)
-}
-
-// `sum` times the moduli from the field `from` on.
-fn in_ticks(moduli: &[u64], from: usize, sum: u64) -> u64
-    requires { ⌜ (from ≤ length (now moduli)) × (sum ≤ sumCap) ⌝ }
-    ensures { λ r. ⌜ r ≡ min (sum * product (drop from (now (moduli .entry)))) sumCap ⌝ }
-{
-    let mut ticks = sum;
-    let mut i = from;
-    while i < moduli.len() {
-        ticks = wide::mul_capped(ticks, moduli[i], SUM_CAP);
-        i += 1;
-    }
-    ticks
 }

@@ -1,2 +1,3 @@
 -- The laws of the message reader: one for each way out.
 pub mod Ways
+pub mod Refusals

@@ -1,7 +1,7 @@
 -- What each way out of reading a text or a stamp says.
-use Prim.Native.Nat.{ℕ, _+_, _-_, _≤_, _<_, min}
+use Prim.Native.Nat.{ℕ, _+_, _≤_, _<_, min}
 use mathlib.Core.Path.{_≡_, refl, sym, ap, subst, _∙_}
-use mathlib.Core.Bool.{Bool, true, false, not, _&&_}
+use mathlib.Core.Bool.{Bool, true, false}
 use mathlib.Core.List.{List}
 use mathlib.Core.Logic.{⊎-elim}
 use mathlib.Core.Option.{Option, none, some}
@@ -9,9 +9,9 @@ use lib.Dec.{leb, ltb, eqb}
 use lib.ListN.{length, getD, take, drop}
 use lib.Seq.{length-take-le, getD-take}
 use native.Mathlib.Omega.{arith}
-use borrow.Author.Tests.{le-leb, lt-leb, leb-true, leb-false, eq-eqb, eqb-true, eqb-false, ltb-true, ltb-false, not-true, not-false}
+use borrow.Author.Tests.{le-leb, lt-leb, leb-true, leb-false, eq-eqb, eqb-true, eqb-false, ltb-true, ltb-false}
 use Rattle.base.specs.Scans.{all}
-use Rattle.base.proofs.Tests.{by-test, not-both, and-both, and-out-first, and-out-second}
+use Rattle.base.proofs.Tests.{by-test, not-both, and-out-second}
 use Rattle.base.proofs.Scans.{First, first-is, first-none, first-or}
 use Rattle.rules.specs.Limits.{mostFields, mostPartitions, longestText}
 use Rattle.rules.specs.declared.Layout.{Layout}
@@ -19,8 +19,8 @@ use Rattle.rules.specs.declared.CountAnswer.{CountAnswer}
 use Rattle.rules.specs.declared.CountAnswer.the-variants as Answered
 use Rattle.rules.specs.Answer.{Answer, answer, refused, unless, andThen, countAnswer}
 use Rattle.rules.specs.Layout.{layoutOk, moduliOf, offsetsOf}
-use Rattle.rules.specs.Partitions.{Partitions, partitionsIn, partitionsOk}
-use Rattle.rules.specs.Text.{isAllowed, fieldsOf, fieldsCount, readText}
+use Rattle.rules.specs.Partitions.{Partitions, partitionsIn}
+use Rattle.rules.specs.Text.{isAllowed, fieldsOf, readText}
 use Rattle.rules.specs.Stamp.{slashIn, frontOk, frontNumber, encodeNamed, encodeFirst, stampAt, readStamp}
 use Rattle.rules.specs.Facts.{LayoutFacts}
 use Rattle.tables.specs.declared.Basis.{Basis}

@@ -1,2 +1,3 @@
 -- What reading answers once the tables are accepted.
 pub mod Accepted
+pub mod Readings

@@ -93,6 +93,7 @@ fn count_from(moduli: &[u64], offsets: &[u64], text: &[u8], from: usize) -> Coun
     count(moduli, offsets, pass)
 }
 
+// One scan reaches the end of the text or the `/`; after a `/` another reads the rest.
 fn stamp_in(
     moduli: &[u64],
     offsets: &[u64],
@@ -125,6 +126,7 @@ fn stamp_in(
     )
 }
 
+// A count goes on to its partition, a refusal is passed on.
 fn then_first(starts: &[u64], ends: &[u64], counted: CountAnswer) -> CountAnswer
     requires { ⌜ Listed (partitions (now starts) (now ends)) ⌝ }
     ensures { λ r. ⌜ countAnswer r ≡ andThen (countAnswer counted) (encodeFirst (partitions (now (starts .entry)) (now (ends .entry)))) ⌝ }

@@ -1,21 +1,16 @@
-use borrow.Author.Tests.{lt-leb, le-leb, eq-eqb, ne-eqb}
+use borrow.Author.Tests.{lt-leb, le-leb}
 use Rattle.fields.specs.Pass.{valueFault}
 use Rattle.fields.proofs.value_fault.Statement.{statement}
 use Rattle.fields.proofs.value_fault.Tie as tie
-use Rattle.fields.proofs.value_fault.Reads as reads
-use Rattle.fields.proofs.value_fault.Lts as lts
 
--- src/lib.rt:203:9
 returns : tie.Need-returns
 unfolding valueFault
 returns c = simp (lt-leb _ _ (c .if1 .taken))
 
--- src/lib.rt:206:9
 returns-2 : tie.Need-returns-2
 unfolding valueFault
 returns-2 c = simp (le-leb _ _ (c .before .if1 .left), lt-leb _ _ (c .if2 .taken))
 
--- src/lib.rt:199:1
 returns-3 : tie.Need-returns-3
 unfolding valueFault
 returns-3 c = simp (le-leb _ _ (c .before .if1 .left), le-leb _ _ (c .if2 .left))

@@ -4,26 +4,15 @@ use Rattle.text.proofs.Ways.{some-fields, few-fields, text-refused, tex
 use borrow.Author.Needs.{needs}
 use Rattle.text.proofs.read_text.Statement.{statement}
 use Rattle.text.proofs.read_text.Tie as tie
-use Rattle.text.proofs.read_text.Reads as reads
-use Rattle.text.proofs.read_text.Lts as lts
-use Rattle.layouts.proofs.measure.Reads as measure-reads
-use Rattle.text.proofs.text_count.Reads as text-count-reads
 
--- src/lib.rt:27:9
-measure-requires : tie.Need-measure-requires
-measure-requires c κs = search needs
-
--- src/lib.rt:29:9
 returns : tie.Need-returns
 returns c = search (text-refused, measured-bad, not-true, needs)
 
--- src/lib.rt:32:5
 text-count-requires : tie.Need-text-count-requires
 text-count-requires c κs = (search (some-fields, measured-facts, not-false, needs), search (few-fields, measured-facts, not-false, needs), search (few-fields, measured-facts, not-false, needs))
 
--- src/lib.rt:24:1
 returns-2 : tie.Need-returns-2
 returns-2 c = search (text-accepted, few-fields, measured-facts, measured-good, not-false, needs)
 
 pub read-text-spec : {M : Type 1} → statement M
-read-text-spec = tie.close (tie.spec measure-requires returns text-count-requires returns-2)
+read-text-spec = tie.close (tie.spec (λ c κs. search needs) returns text-count-requires returns-2)
