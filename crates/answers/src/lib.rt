@@ -26,7 +26,7 @@ pub fn put_count(out: &mut [u8], at: usize, answer: CountAnswer) -> usize
 {
     match answer {
         CountAnswer::Count(count) => put_number(out, at, b"ok ", count),
-        CountAnswer::Refused(number) => put_number(out, at, b"refused ", number),
+        CountAnswer::Refused(number) => put_refused(out, at, number),
     }
 }
 
@@ -34,8 +34,8 @@ pub fn put_time(out: &mut [u8], at: usize, answer: TimeAnswer) -> usize
     ensures { λ r. ⌜ Put at (now (out .entry)) r ⌝ }
 {
     match answer {
-        TimeAnswer::Time(time) => put_ordinal(out, at, signed::ordinal(time)),
-        TimeAnswer::Refused(number) => put_number(out, at, b"refused ", number),
+        TimeAnswer::Time(time) => put_ordinal(out, at, b"ok ", signed::ordinal(time)),
+        TimeAnswer::Refused(number) => put_refused(out, at, number),
     }
 }
 
@@ -45,7 +45,7 @@ pub fn put_steps_back(out: &mut [u8], at: usize, answer: StepsBackAnswer) -> usi
     match answer {
         StepsBackAnswer::Yes => put_line(out, at, b"ok ", b"yes"),
         StepsBackAnswer::No => put_line(out, at, b"ok ", b"no"),
-        StepsBackAnswer::Refused(number) => put_number(out, at, b"refused ", number),
+        StepsBackAnswer::Refused(number) => put_refused(out, at, number),
     }
 }
 
@@ -54,7 +54,7 @@ pub fn put_double(out: &mut [u8], at: usize, answer: DoubleAnswer) -> usize
 {
     match answer {
         DoubleAnswer::Double(double) => put_bits(out, at, to_bits(double)),
-        DoubleAnswer::Refused(number) => put_number(out, at, b"refused ", number),
+        DoubleAnswer::Refused(number) => put_refused(out, at, number),
     }
 }
 
@@ -68,6 +68,22 @@ pub fn put_print(out: &mut [u8], at: usize, answer: PrintAnswer, lent: &[u8]) ->
     }
 }
 
+// The encoded count of a stamp, and its time.
+pub fn put_stamp(out: &mut [u8], at: usize, count: u64, time: i64) -> usize
+    ensures { λ r. ⌜ Put at (now (out .entry)) r ⌝ }
+{
+    let mut digits = [0u8; 20];
+    let n = io::decimal(count, &mut digits);
+    let place = put(out, at, &digits[..n]);
+    put_ordinal(out, place, b" ", signed::ordinal(time))
+}
+
+pub fn put_refused(out: &mut [u8], at: usize, number: u64) -> usize
+    ensures { λ r. ⌜ Put at (now (out .entry)) r ⌝ }
+{
+    put_number(out, at, b"refused ", number)
+}
+
 fn put_number(out: &mut [u8], at: usize, head: &[u8], number: u64) -> usize
     ensures { λ r. ⌜ Put at (now (out .entry)) r ⌝ }
 {
@@ -76,13 +92,14 @@ fn put_number(out: &mut [u8], at: usize, head: &[u8], number: u64) -> usize
     put_line(out, at, head, &digits[..n])
 }
 
-fn put_ordinal(out: &mut [u8], at: usize, ordinal: u64) -> usize
+fn put_ordinal(out: &mut [u8], at: usize, head: &[u8], ordinal: u64) -> usize
     ensures { λ r. ⌜ Put at (now (out .entry)) r ⌝ }
 {
+    let place = put(out, at, head);
     if ordinal < ZERO {
-        return put_number(out, at, b"ok -", ZERO - ordinal);
+        return put_number(out, place, b"-", ZERO - ordinal);
     }
-    put_number(out, at, b"ok ", ordinal - ZERO)
+    put_number(out, place, b"", ordinal - ZERO)
 }
 
 fn put_bits(out: &mut [u8], at: usize, bits: u64) -> usize
