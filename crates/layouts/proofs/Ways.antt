@@ -12,7 +12,7 @@ use Rattle.base.specs.Scans.{all, product}
 use Rattle.base.proofs.Tests.{by-test, not-both, and-both, and-first, and-second}
 use Rattle.rules.specs.declared.Layout.{Layout}
 use Rattle.rules.specs.Limits.{mostFields, largestOffset, largestP, largestMSF, lastDelimiter}
-use Rattle.rules.specs.Layout.{moduliOf, offsetsOf, productOf, msfOf, layoutOk}
+use Rattle.rules.specs.Layout.{moduliOf, productOf, msfOf, layoutOk}
 use Rattle.rules.specs.Facts.{LayoutFacts}
 use Rattle.rules.proofs.Accepted.{layout-facts, layout-accepted}
 use Rattle.layouts.specs.declared.Measured.{Measured}

@@ -1,19 +1,19 @@
 -- No line before segment i is later than the next segment's time, and at is the ordinal of time i.
 use Prim.Native.Nat.{ℕ, _+_, _-_, _*_, _^_, _≤_, _<_}
-use mathlib.Core.Path.{_≡_, refl, sym, _∙_, subst}
-use mathlib.Core.Bool.{Bool, true, false, not, _&&_}
+use mathlib.Core.Path.{_≡_, sym, _∙_}
+use mathlib.Core.Bool.{Bool, true, false, not}
 use mathlib.Core.List.{List}
 use lib.IntN.{ℤ, pos}
-use lib.Dec.{leb, ltb}
+use lib.Dec.{leb}
 use lib.ListN.{length, getD}
-use lib.Signed.{leZ, ltZ}
+use lib.Signed.{leZ}
 use native.Mathlib.Nat.{le-of-lt}
 use native.Mathlib.Omega.{arith}
 use borrow.Author.Count.{below-more}
-use borrow.Author.Tests.{lt-ltb, le-ltb, ltb-true, le-leb, leb-true, not-true, not-false}
+use borrow.Author.Tests.{lt-ltb, le-ltb, ltb-true, not-true, not-false}
 use Rattle.base.specs.Rounding.{roundUp}
-use Rattle.base.specs.Signed.{later, elapsed, ordinal}
-use Rattle.base.proofs.Signed.{ordinal-le, ordinal-lt, ordinal-elapsed}
+use Rattle.base.specs.Signed.{elapsed}
+use Rattle.base.proofs.Signed.{ordinal-lt, ordinal-elapsed}
 use Rattle.base.proofs.Scans.{some-at, some-from-none}
 use Rattle.rules.specs.declared.Layout.{Layout}
 use Rattle.rules.specs.Segments.{segments, unitOf, lineAt, stepsBackAt, stepsBack}

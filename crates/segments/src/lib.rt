@@ -71,8 +71,8 @@ fn room_at(times: &[i64], i: usize) -> u64
     room(times[i])
 }
 
-// How long before the latest time `time` is. Outside the range of times it is the greatest number: a row after it cannot
-// have more room, and the first row is tested for it.
+// How long before the latest time `time` is. A time outside the range has the greatest number: the first row is tested for
+// it, and a later row must have less room than the row before it.
 fn room(time: i64) -> u64
     ensures { λ r. ⌜ r ≡ roomOf time ⌝ }
 {
