@@ -14,9 +14,6 @@ use layouts::limits::MOST_SEGMENTS;
 use signed::ordinal;
 use wide::product_at_most;
 
-// The refusal of segments that are not accepted.
-pub const BAD_SEGMENTS: u64 = 3;
-
 // Whether segments are accepted. `unit` is the layout's 1,000×MSF, `total` that of the partitions.
 pub fn check(unit: u64, total: u64, counts: &[u64], times: &[i64], rates: &[u64]) -> bool
     requires { ⌜ 1 ≤ unit ⌝ }
