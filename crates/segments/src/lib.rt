@@ -1,7 +1,8 @@
 // The segment check, and whether accepted segments step back: one pass over the rows each, and no division.
 // A line that is rounded up, ceil(x / unit), is at most k exactly where x is at most k * unit.
 ghost use mathlib.Core.Path.{_≡_};
-ghost use Prim.Native.Nat.{_≤_, _<_};
+ghost use Prim.Native.Nat.{_*_, _≤_, _<_};
+ghost use lib.Dec.{ltb};
 ghost use lib.IntN.{pos};
 ghost use lib.ListN.{length, getD};
 ghost use Rattle.rules.specs.Segments.{segments};
@@ -110,13 +111,20 @@ pub fn steps_back(unit: u64, counts: &[u64], times: &[i64], rates: &[u64]) -> bo
         let length = counts[i + 1] - counts[i];
         let next = ordinal_at(times, i + 1);
         let gap = next - at;
-        if !product_at_most(rate, length, gap, unit) {
+        if overtakes(unit, rate, length, gap) {
             return true;
         }
         at = next;
         i += 1;
     }
     false
+}
+
+// Whether a line of that rate over `length` ticks, rounded up, is longer than `gap` nanoseconds.
+fn overtakes(unit: u64, rate: u64, length: u64, gap: u64) -> bool
+    ensures { λ r. ⌜ r ≡ ltb (gap * unit) (rate * length) ⌝ }
+{
+    !product_at_most(rate, length, gap, unit)
 }
 
 fn ordinal_at(times: &[i64], i: usize) -> u64
