@@ -1,13 +1,12 @@
 -- What a caller has of `measure`: one law for each thing that it reads off the answer.
-use Prim.Native.Nat.{ℕ, _≤_}
+use Prim.Native.Nat.{_≤_}
 use mathlib.Core.Path.{_≡_, sym, _∙_}
 use mathlib.Core.Bool.{true, false}
-use mathlib.Core.List.{List, [], _∷_}
 use native.Mathlib.Omega.{arith}
 use lib.Dec.{leb}
 use lib.ListN.{drop}
-use Rattle.base.specs.Scans.{all, product}
-use Rattle.base.proofs.Tests.{and-second}
+use Rattle.base.specs.Scans.{product}
+use Rattle.base.proofs.Lists.{all-drop-one, product-pos}
 use Rattle.rules.specs.declared.Layout.{Layout}
 use Rattle.rules.specs.Layout.{moduliOf, layoutOk, productOf, msfOf}
 use Rattle.rules.specs.Segments.{unitOf}
@@ -15,7 +14,6 @@ use Rattle.rules.specs.Facts.{LayoutFacts}
 use Rattle.rules.proofs.Accepted.{layout-facts}
 use Rattle.layouts.specs.declared.Measured.{Measured}
 use Rattle.layouts.specs.Measure.{MeasureOf}
-use Rattle.layouts.proofs.Ways.{product-positive}
 
 module _ (l : Layout) (r : Measured) (w : MeasureOf l r) where
   pub measured-bad : r .ok ≡ false → layoutOk l ≡ false
@@ -33,12 +31,7 @@ module _ (l : Layout) (r : Measured) (w : MeasureOf l r) where
   pub measured-msf : r .ok ≡ true → r .msf ≡ msfOf l
   measured-msf e = w .msf e
 
-after-first : (s : List ℕ) → all (λ m. leb 1 m) s ≡ true → 1 ≤ product (drop 1 s)
-unfolding all product
-after-first [] h = omega arith
-after-first (x ∷ s) h = product-positive s (and-second (leb 1 x) _ h)
-
 -- The unit of an accepted layout may divide.
 pub unit-positive : (l : Layout) → LayoutFacts l → 1 ≤ unitOf l
 unfolding unitOf msfOf
-unit-positive l f = omega (arith, after-first (moduliOf l) (f .moduli))
+unit-positive l f = omega (arith, product-pos (drop 1 (moduliOf l)) (all-drop-one (λ m. leb 1 m) (moduliOf l) (f .moduli)))

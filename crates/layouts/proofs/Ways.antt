@@ -3,35 +3,30 @@ use Prim.Native.Nat.{ℕ, zero, suc, _+_, _*_, _≤_, _<_, min}
 use mathlib.Core.Path.{_≡_, refl, sym, _∙_}
 use mathlib.Core.Bool.{Bool, true, false, not}
 use mathlib.Core.List.{List, [], _∷_, map}
-use native.Mathlib.Nat.{zero-mul, mul-zero, mul-le-mul}
+use native.Mathlib.Nat.{zero-mul, mul-zero}
 use native.Mathlib.Omega.{arith}
 use lib.Dec.{leb}
 use lib.ListN.{length, getD, take, drop}
-use borrow.Author.Tests.{leb-true, le-leb, not-true, not-false}
+use borrow.Author.Tests.{le-leb, not-true, not-false}
 use Rattle.base.specs.Scans.{all, product}
-use Rattle.base.proofs.Tests.{by-test, not-both, and-both, and-first, and-second}
+use Rattle.base.proofs.Lists.{product-pos}
+use Rattle.base.proofs.Tests.{by-test, not-both, and-both}
 use Rattle.rules.specs.declared.Layout.{Layout}
 use Rattle.rules.specs.Limits.{mostFields, largestOffset, largestP, largestMSF, lastDelimiter}
-use Rattle.rules.specs.Layout.{moduliOf, offsetsOf, productOf, msfOf, layoutOk}
+use Rattle.rules.specs.Layout.{moduliOf, productOf, msfOf, layoutOk}
 use Rattle.rules.specs.Facts.{LayoutFacts}
 use Rattle.rules.proofs.Accepted.{layout-facts, layout-accepted}
 use Rattle.layouts.specs.declared.Measured.{Measured}
 use Rattle.layouts.specs.Measure.{MeasureOf}
 use Rattle.layouts.proofs.Slots.{slots-within, product-of-slots}
 
--- "Each has a modulus of at least 1" exactly where the product is at least 1.
-pub product-positive : (s : List ℕ) → all (λ m. leb 1 m) s ≡ true → 1 ≤ product s
-unfolding all product
-product-positive [] h = omega arith
-product-positive (x ∷ s) h =
-    mul-le-mul (leb-true 1 x (and-first (leb 1 x) _ h)) (product-positive s (and-second (leb 1 x) _ h))
-
+-- "Each has a modulus of at least 1" where the product is at least 1; base has the other way.
 factors : (a b : ℕ) → 1 ≤ a * b → (1 ≤ a) × (1 ≤ b)
 factors zero b h = absurd (omega (arith, zero-mul b))
 factors (suc a) zero h = absurd (omega (arith, mul-zero (suc a)))
 factors (suc a) (suc b) h = (omega arith, omega arith)
 
-pub positive-factors : (s : List ℕ) → 1 ≤ product s → all (λ m. leb 1 m) s ≡ true
+positive-factors : (s : List ℕ) → 1 ≤ product s → all (λ m. leb 1 m) s ≡ true
 unfolding all product
 positive-factors [] h = refl
 positive-factors (x ∷ s) h = and-both (le-leb 1 x (factors x (product s) h .0)) (positive-factors s (factors x (product s) h .1))
@@ -95,7 +90,7 @@ module _ (l : Layout) where
 
       pub zero-product : (r : Measured) → r .ok ≡ false → p < 1 → MeasureOf l r
       unfolding productOf
-      zero-product r b h = refused-by r b (λ f. omega (arith, product-positive (moduliOf l) (f .moduli), product-capped))
+      zero-product r b h = refused-by r b (λ f. omega (arith, product-pos (moduliOf l) (f .moduli), product-capped))
 
       pub measured : {b : Bool} → 1 ≤ l .delimiter → l .delimiter ≤ lastDelimiter → b ≡ all (λ o. leb o largestOffset) (take (l .n) (l .offsets)) → not b ≡ false → p ≤ largestP → 1 ≤ p → MeasureOf l (record { ok = true; product = p; msf = m })
       measured {b} low high o t bound positive =

@@ -12,9 +12,6 @@ use wide::mul_capped;
 
 pub mod limits;
 
-// The refusal of a layout that is not accepted.
-pub const BAD_LAYOUT: u64 = 1;
-
 // Whether a layout is accepted. Where it is, its product of moduli P and its MSF; where it is not, 0 and 0.
 pub struct Measured {
     pub ok: bool,

@@ -1,5 +1,4 @@
 // The limits that are not constants of the layout type. Code reads each of them here and nowhere else.
-ghost use mathlib.Core.Path.{_≡_};
 ghost use Rattle.layouts.specs.Limits.{SameLimits};
 use rules::Layout;
 

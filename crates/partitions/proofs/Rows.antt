@@ -1,9 +1,9 @@
 -- The rows before i are in order, and t is the sum of their lengths.
 use Prim.Native.Nat.{ℕ, _+_, _-_, _≤_, _<_}
-use mathlib.Core.Path.{_≡_, refl, sym}
+use mathlib.Core.Path.{_≡_, sym}
 use mathlib.Core.List.{List}
 use native.Mathlib.Omega.{arith}
-use lib.ListN.{length, getD}
+use lib.ListN.{getD}
 use borrow.Author.Count.{below-more}
 use Rattle.base.proofs.Scans.{sum-start, sum-next}
 use Rattle.rules.specs.Limits.{largestTotal}

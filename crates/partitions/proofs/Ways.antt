@@ -1,22 +1,21 @@
 -- What each way out of `check` says of the partitions.
 use Prim.Native.Nat.{ℕ, _+_, _-_, _≤_, _<_}
-use mathlib.Core.Path.{_≡_, refl, sym, _∙_, ap}
-use mathlib.Core.Bool.{Bool, true, false}
+use mathlib.Core.Path.{_≡_, sym, _∙_, ap}
+use mathlib.Core.Bool.{true, false}
 use mathlib.Core.List.{List}
 use native.Mathlib.Omega.{arith}
 use lib.ListN.{length, getD}
-use Rattle.base.specs.Scans.{sumBelow}
 use Rattle.base.proofs.Tests.{by-test, not-both}
 use Rattle.base.proofs.Scans.{sum-next, sum-up}
 use Rattle.rules.specs.declared.Layout.{Layout}
 use Rattle.rules.specs.Limits.{mostPartitions, largestTotal}
 use Rattle.rules.specs.Layout.{productOf}
 use Rattle.rules.specs.Partitions.{partitions, partitionsOk, totalOf, lengthOf, lengthsBefore}
-use Rattle.rules.specs.Facts.{PartitionFacts, PartitionsFacts}
+use Rattle.rules.specs.Facts.{PartitionsFacts}
 use Rattle.rules.proofs.Accepted.{partitions-facts, partitions-accepted}
 use Rattle.partitions.specs.declared.Checked.{Checked}
 use Rattle.partitions.specs.Check.{CheckOf}
-use Rattle.partitions.proofs.Rows.{RowOk, RowsTo}
+use Rattle.partitions.proofs.Rows.{RowsTo}
 
 module _ (P : ℕ) (ss es : List ℕ) where
   module _ (r : Checked) (bad : r .ok ≡ false) where

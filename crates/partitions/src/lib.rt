@@ -6,9 +6,6 @@ ghost use Rattle.partitions.specs.Check.{CheckOf};
 use layouts::limits::MOST_PARTITIONS;
 use rules::Layout;
 
-// The refusal of partitions that are not accepted.
-pub const BAD_PARTITIONS: u64 = 2;
-
 // Whether partitions are accepted and, where they are, their total; where they are not, 0.
 pub struct Checked {
     pub ok: bool,

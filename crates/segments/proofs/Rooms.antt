@@ -1,22 +1,21 @@
 -- The room of a time, and a line that stays within it: a rounded line as a comparison of two products.
 use Prim.Native.Nat.{ℕ, suc, _+_, _-_, _*_, _^_, _≤_, _<_}
 use mathlib.Core.Path.{_≡_, refl, sym, _∙_}
-use mathlib.Core.Bool.{Bool, true, false, not, _&&_, cond}
-use mathlib.Core.List.{[], _∷_}
+use mathlib.Core.Bool.{Bool, true, false, _&&_}
 use lib.IntN.{ℤ}
 use lib.Dec.{leb, ltb, lit<}
 use lib.Signed.{mag, leZ, ltZ}
 use mir.Syntax.{w64}
 use mir.Val.{SFits, toZ, ofZ}
 use mir.Facts.{toZ-ofZ}
-use borrow.Author.Tests.{le-leb, lt-leb, leb-true, leb-false, ltb-true, lt-ltb}
+use borrow.Author.Tests.{le-leb, lt-leb, leb-true}
 use native.Mathlib.Omega.{arith}
 use Rattle.base.specs.Scans.{allOf}
 use Rattle.base.specs.Rounding.{roundUp}
 use Rattle.base.specs.Signed.{later, elapsed, ordinal}
 use Rattle.base.proofs.Rounding.{up-at-most, at-most-up}
 use Rattle.base.proofs.Signed.{ordinal-le, ordinal-elapsed}
-use Rattle.base.proofs.Tests.{by-test, same-test, and-both, and-first, and-second, and-out-first, and-out-second, all-of-head, all-of-tail}
+use Rattle.base.proofs.Tests.{by-test, same-test, and-first, and-second, and-out-first, and-out-second, all-of-head, all-of-tail}
 use Rattle.rules.specs.Limits.{earliestTime, latestTime, largestRate}
 use Rattle.segments.specs.Check.{roomOf, withinRoom}
 use Rattle.segments.specs.StepsBack.{OrdinalOf}

@@ -1,25 +1,33 @@
 -- No line before segment i is later than the next segment's time, and at is the ordinal of time i.
 use Prim.Native.Nat.{ℕ, _+_, _-_, _*_, _^_, _≤_, _<_}
-use mathlib.Core.Path.{_≡_, refl, sym, _∙_, subst}
-use mathlib.Core.Bool.{Bool, true, false, not, _&&_}
+use mathlib.Core.Path.{_≡_, sym, _∙_}
+use mathlib.Core.Bool.{Bool, true, false, not}
 use mathlib.Core.List.{List}
 use lib.IntN.{ℤ, pos}
 use lib.Dec.{leb, ltb}
 use lib.ListN.{length, getD}
-use lib.Signed.{leZ, ltZ}
+use lib.Signed.{leZ}
 use native.Mathlib.Nat.{le-of-lt}
 use native.Mathlib.Omega.{arith}
 use borrow.Author.Count.{below-more}
-use borrow.Author.Tests.{lt-ltb, le-ltb, ltb-true, le-leb, leb-true, not-true, not-false}
+use borrow.Author.Tests.{lt-ltb, le-ltb, ltb-true, leb-true, leb-false, not-false}
 use Rattle.base.specs.Rounding.{roundUp}
-use Rattle.base.specs.Signed.{later, elapsed, ordinal}
-use Rattle.base.proofs.Signed.{ordinal-le, ordinal-lt, ordinal-elapsed}
+use Rattle.base.specs.Signed.{elapsed}
+use Rattle.base.proofs.Signed.{ordinal-lt, ordinal-elapsed}
+use Rattle.base.proofs.Tests.{by-test}
 use Rattle.base.proofs.Scans.{some-at, some-from-none}
 use Rattle.rules.specs.declared.Layout.{Layout}
 use Rattle.rules.specs.Segments.{segments, unitOf, lineAt, stepsBackAt, stepsBack}
 use Rattle.segments.specs.StepsBack.{OrdinalOf, Rising, StepsBackOf}
 use Rattle.segments.proofs.Signs.{before-not-after, before-at-most, later-within}
 use Rattle.segments.proofs.Rooms.{rounded-test}
+
+-- above is not at most
+pub above-not-within : (a b : ℕ) → ltb a b ≡ not (leb b a)
+above-not-within a b = by-test (leb b a) (λ h. rw (h, le-ltb a b (leb-true b a h))) (λ h. rw (h, lt-ltb a b (leb-false b a h)))
+
+pub overtakes-test : (r : Bool) (a b : ℕ) → r ≡ leb b a → not r ≡ ltb a b
+overtakes-test r a b e = rw e (sym (above-not-within a b))
 
 module _ (unit : ℕ) (cs : List ℕ) (ts : List ℤ) (rs : List ℕ) where
   -- segment i's line against the next segment's time, as a comparison of products
@@ -51,19 +59,22 @@ module _ (unit : ℕ) (cs : List ℕ) (ts : List ℤ) (rs : List ℕ) (g : Risin
       pub times-up : at ≤ next
       times-up = rw (w .here .same, n .same) (le-of-lt (ltb-true _ _ (sym (ordinal-lt (2 ^ 63) _ _ (w .here .small) (n .small)) ∙ g .grow i inside .times)))
 
+      gap-is : next - at ≡ elapsed (getD ts i (pos 0)) (getD ts (i + 1) (pos 0))
+      gap-is = rw (w .here .same, n .same) (sym (ordinal-elapsed (2 ^ 63) (getD ts i (pos 0)) (getD ts (i + 1) (pos 0)) (w .here .small) (n .small) not-later))
+
       -- the code's test of segment i
-      product-test : {b : Bool} → b ≡ leb (getD rs i 0 * (getD cs (i + 1) 0 - getD cs i 0)) ((next - at) * unit) → b ≡ nextTest unit cs ts rs i
+      product-test : {b : Bool} → b ≡ ltb ((next - at) * unit) (getD rs i 0 * (getD cs (i + 1) 0 - getD cs i 0)) → b ≡ not (nextTest unit cs ts rs i)
       unfolding nextTest
-      product-test e = e ∙ rw (w .here .same, n .same, ordinal-elapsed (2 ^ 63) (getD ts i (pos 0)) (getD ts (i + 1) (pos 0)) (w .here .small) (n .small) not-later)
+      product-test e = e ∙ rw gap-is (above-not-within (elapsed (getD ts i (pos 0)) (getD ts (i + 1) (pos 0)) * unit) (getD rs i 0 * (getD cs (i + 1) 0 - getD cs i 0)))
 
-      pub none-turn : {b : Bool} → b ≡ leb (getD rs i 0 * (getD cs (i + 1) 0 - getD cs i 0)) ((next - at) * unit) → not b ≡ false → NoneTo unit cs ts rs (i + 1) next
-      none-turn {b} e f = record { each = below-more _ _ (w .each) (sym (product-test e) ∙ not-false b f); here = n }
+      pub none-turn : {b : Bool} → b ≡ ltb ((next - at) * unit) (getD rs i 0 * (getD cs (i + 1) 0 - getD cs i 0)) → b ≡ false → NoneTo unit cs ts rs (i + 1) next
+      none-turn e f = record { each = below-more _ _ (w .each) (not-false _ (sym (product-test e) ∙ f)); here = n }
 
-      pub step-found : {b : Bool} → b ≡ leb (getD rs i 0 * (getD cs (i + 1) 0 - getD cs i 0)) ((next - at) * unit) → not b ≡ true → StepsBackOf unit (segments cs ts rs) true
+      pub step-found : {b : Bool} → b ≡ ltb ((next - at) * unit) (getD rs i 0 * (getD cs (i + 1) 0 - getD cs i 0)) → b ≡ true → StepsBackOf unit (segments cs ts rs) true
       unfolding stepsBack
-      step-found {b} e f =
+      step-found e t =
           record {
-            same = λ l u. sym (some-at (stepsBackAt l (segments cs ts rs)) (length cs) i (omega arith) (step-test l u ∙ rw (sym (product-test e) ∙ not-true b f)));
+            same = λ l u. sym (some-at (stepsBackAt l (segments cs ts rs)) (length cs) i (omega arith) (step-test l u ∙ sym (product-test e) ∙ t));
           }
 
   last-test : (i : ℕ) → length cs ≤ i + 1 → (l : Layout) → stepsBackAt l (segments cs ts rs) i ≡ false

@@ -1,7 +1,7 @@
 -- What a caller has of `check` and `steps_back` for its layout and partitions.
 use Prim.Native.Nat.{ℕ, _≤_}
-use mathlib.Core.Path.{_≡_, sym, _∙_}
-use mathlib.Core.Bool.{Bool, true, false}
+use mathlib.Core.Path.{_≡_, sym}
+use mathlib.Core.Bool.{Bool}
 use Rattle.rules.specs.declared.Layout.{Layout}
 use Rattle.rules.specs.Partitions.{Partitions, totalOf}
 use Rattle.rules.specs.Segments.{Segments, unitOf, segmentsOk, stepsBack}

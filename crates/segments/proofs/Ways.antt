@@ -1,26 +1,25 @@
 -- What each way out of `check` says of the segments.
 use Prim.Native.Nat.{ℕ, _+_, _-_, _*_, _^_, _≤_, _<_}
-use mathlib.Core.Path.{_≡_, refl, sym, _∙_, subst}
-use mathlib.Core.Bool.{Bool, true, false, not, cond}
+use mathlib.Core.Path.{_≡_, sym, _∙_, subst}
+use mathlib.Core.Bool.{Bool, true, false, not}
 use mathlib.Core.List.{List}
 use lib.IntN.{ℤ, pos}
-use lib.Dec.{leb, ltb}
+use lib.Dec.{leb}
 use lib.ListN.{length, getD}
-use lib.Signed.{leZ, ltZ}
+use lib.Signed.{leZ}
 use native.Mathlib.Omega.{arith}
 use borrow.Author.Count.{below-more}
 use borrow.Author.Tests.{lt-ltb, le-ltb, ltb-true, le-leb, leb-true, not-true}
-use Rattle.base.specs.Rounding.{roundUp}
 use Rattle.base.proofs.Tests.{by-test, not-both}
 use Rattle.rules.specs.declared.Layout.{Layout}
 use Rattle.rules.specs.Limits.{mostSegments, latestTime}
 use Rattle.rules.specs.Partitions.{Partitions, totalOf}
 use Rattle.rules.specs.Segments.{segments, unitOf, lineAt, segmentEnd, segmentsOk}
-use Rattle.rules.specs.Facts.{SegmentFacts, Grows, SegmentsFacts}
+use Rattle.rules.specs.Facts.{SegmentFacts, SegmentsFacts}
 use Rattle.rules.proofs.Accepted.{segments-facts, segments-accepted}
 use Rattle.segments.specs.Check.{roomOf, withinRoom, CheckOf}
 use Rattle.segments.proofs.Rooms.{InRange, Within, room-small, room-order, line-within, within-facts, within-holds}
-use Rattle.segments.proofs.Rows.{Row, RowsTo}
+use Rattle.segments.proofs.Rows.{RowsTo}
 
 module _ (unit total : ℕ) (cs : List ℕ) (ts : List ℤ) (rs : List ℕ) where
   -- the end of segment i

@@ -1,7 +1,8 @@
 // The segment check, and whether accepted segments step back: one pass over the rows each, and no division.
 // A line that is rounded up, ceil(x / unit), is at most k exactly where x is at most k * unit.
 ghost use mathlib.Core.Path.{_≡_};
-ghost use Prim.Native.Nat.{_≤_, _<_};
+ghost use Prim.Native.Nat.{_*_, _≤_, _<_};
+ghost use lib.Dec.{ltb};
 ghost use lib.IntN.{pos};
 ghost use lib.ListN.{length, getD};
 ghost use Rattle.rules.specs.Segments.{segments};
@@ -13,9 +14,6 @@ use layouts::limits::LATEST_TIME;
 use layouts::limits::MOST_SEGMENTS;
 use signed::ordinal;
 use wide::product_at_most;
-
-// The refusal of segments that are not accepted.
-pub const BAD_SEGMENTS: u64 = 3;
 
 // Whether segments are accepted. `unit` is the layout's 1,000×MSF, `total` that of the partitions.
 pub fn check(unit: u64, total: u64, counts: &[u64], times: &[i64], rates: &[u64]) -> bool
@@ -71,8 +69,8 @@ fn room_at(times: &[i64], i: usize) -> u64
     room(times[i])
 }
 
-// How long before the latest time `time` is. Outside the range of times it is the greatest number: a row after it cannot
-// have more room, and the first row is tested for it.
+// How long before the latest time `time` is. A time outside the range has the greatest number: the first row is tested for
+// it, and a later row must have less room than the row before it.
 fn room(time: i64) -> u64
     ensures { λ r. ⌜ r ≡ roomOf time ⌝ }
 {
@@ -113,13 +111,20 @@ pub fn steps_back(unit: u64, counts: &[u64], times: &[i64], rates: &[u64]) -> bo
         let length = counts[i + 1] - counts[i];
         let next = ordinal_at(times, i + 1);
         let gap = next - at;
-        if !product_at_most(rate, length, gap, unit) {
+        if overtakes(unit, rate, length, gap) {
             return true;
         }
         at = next;
         i += 1;
     }
     false
+}
+
+// Whether a line of that rate over `length` ticks, rounded up, is longer than `gap` nanoseconds.
+fn overtakes(unit: u64, rate: u64, length: u64, gap: u64) -> bool
+    ensures { λ r. ⌜ r ≡ ltb (gap * unit) (rate * length) ⌝ }
+{
+    !product_at_most(rate, length, gap, unit)
 }
 
 fn ordinal_at(times: &[i64], i: usize) -> u64

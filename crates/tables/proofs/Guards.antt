@@ -1,6 +1,6 @@
 -- A guard `unless k t` that gave an answer, or a refusal, whatever follows it.
 use Prim.Native.Nat.{ℕ}
-use mathlib.Core.Path.{_≡_, refl, sym, _∙_}
+use mathlib.Core.Path.{_≡_, refl}
 use mathlib.Core.Bool.{Bool, true, false}
 use Rattle.rules.specs.Answer.{Answer, answer, refused, unless}
 

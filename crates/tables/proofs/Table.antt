@@ -1,13 +1,12 @@
 -- What each way out of `accept` and of `steps_back` says of the whole table.
 use Prim.Native.Nat.{ℕ, _≤_}
-use mathlib.Core.Path.{_≡_, refl, sym, _∙_, ap}
+use mathlib.Core.Path.{_≡_, sym, _∙_, ap}
 use mathlib.Core.Bool.{Bool, true, false}
 use Rattle.rules.specs.declared.Layout.{Layout}
 use Rattle.rules.specs.declared.StepsBackAnswer.{StepsBackAnswer}
 use Rattle.rules.specs.declared.StepsBackAnswer.the-variants as Stepped
-use Rattle.rules.specs.Answer.{Answer, answer, refused, unless, stepsBackAnswer}
-use Rattle.rules.specs.Layout.{layoutOk}
-use Rattle.rules.specs.Partitions.{Partitions, partitionsOk}
+use Rattle.rules.specs.Answer.{answer, refused, unless, stepsBackAnswer}
+use Rattle.rules.specs.Partitions.{Partitions}
 use Rattle.rules.specs.Segments.{Segments, segmentsOk, stepsBack}
 use Rattle.rules.specs.Time.{accepted, stepsBackIn}
 use Rattle.segments.specs.Check.{CheckOf}
@@ -16,7 +15,7 @@ use Rattle.segments.proofs.Uses.{checked-same, steps-same, rising}
 use Rattle.tables.specs.declared.Basis.{Basis}
 use Rattle.tables.specs.declared.Acceptance.{Acceptance}
 use Rattle.tables.specs.declared.Acceptance.the-variants.{Accepted, Refused}
-use Rattle.tables.specs.Accept.{basis, acceptance, acceptedStamps, StampsFacts, TableFacts}
+use Rattle.tables.specs.Accept.{basis, acceptance, acceptedStamps}
 use Rattle.tables.proofs.Uses.{stamps-refused, stamps-basis, stamps-facts, stamps-accepted, table-refused, table-facts, table-accepted, basis-positive}
 
 module _ (l : Layout) (p : Partitions) where

@@ -1,16 +1,15 @@
 -- What each way out of `accept_stamps` says of the two tables.
-use Prim.Native.Nat.{ℕ, _*_, _^_, _≤_, _<_}
-use mathlib.Core.Path.{_≡_, refl, sym, _∙_}
+use Prim.Native.Nat.{_*_}
+use mathlib.Core.Path.{_≡_}
 use mathlib.Core.Bool.{true, false, not}
 use native.Mathlib.Omega.{arith}
 use borrow.Author.Tests.{not-true, not-false}
 use mir.Syntax.{w64}
 use mir.Val.{Fits}
 use Rattle.rules.specs.declared.Layout.{Layout}
-use Rattle.rules.specs.Limits.{picoseconds, largestMSF}
+use Rattle.rules.specs.Limits.{picoseconds}
 use Rattle.rules.specs.Answer.{Answer, answer, refused, unless}
-use Rattle.rules.specs.Layout.{layoutOk, productOf, msfOf}
-use Rattle.rules.specs.Partitions.{Partitions, partitionsOk, totalOf}
+use Rattle.rules.specs.Partitions.{Partitions}
 use Rattle.rules.specs.Segments.{unitOf}
 use Rattle.layouts.specs.declared.Measured.{Measured}
 use Rattle.layouts.specs.Measure.{MeasureOf}

@@ -6,12 +6,9 @@ ghost use Rattle.rules.specs.Partitions.{partitions};
 ghost use Rattle.rules.specs.Segments.{segments};
 ghost use Rattle.rules.specs.Time.{accepted, stepsBackIn};
 ghost use Rattle.tables.specs.Accept.{acceptance, basis, acceptedStamps};
-use layouts::BAD_LAYOUT;
 use layouts::limits::PICOSECONDS;
-use partitions::BAD_PARTITIONS;
 use rules::Layout;
 use rules::StepsBackAnswer;
-use segments::BAD_SEGMENTS;
 
 // Of accepted tables: P, the unit 1,000×MSF by which a rate is divided, and the total.
 pub struct Basis {
@@ -31,11 +28,11 @@ pub fn accept_stamps(layout: Layout, starts: &[u64], ends: &[u64]) -> Acceptance
 {
     let measured = layouts::measure(layout);
     if !measured.ok {
-        return Acceptance::Refused(BAD_LAYOUT);
+        return Acceptance::Refused(refusals::LAYOUT);
     }
     let checked = partitions::check(measured.product, starts, ends);
     if !checked.ok {
-        return Acceptance::Refused(BAD_PARTITIONS);
+        return Acceptance::Refused(refusals::PARTITIONS);
     }
     Acceptance::Accepted(Basis {
         product: measured.product,
@@ -61,7 +58,7 @@ pub fn accept(
             if segments::check(b.unit, b.total, counts, times, rates) {
                 return accepted(b);
             }
-            refused(BAD_SEGMENTS)
+            refused(refusals::SEGMENTS)
         }
     }
 }

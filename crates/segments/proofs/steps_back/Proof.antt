@@ -11,10 +11,7 @@ abbrev μ-loop : tie.MeasureT-loop
 μ-loop unit counts times rates last at₀ i₀ at i = last - i
 
 loop-again : tie.Need-loop-again Inv-loop μ-loop
-loop-again c = (
-  search needs,
-  none-turn _ _ _ _ (c .before .before .before .before .before .before .before .before .before .before .before .pre) _ (c .before .before .before .before .before .before .loop-test .taken) _ (c .before .before .before .before .before .before .before .loop .inv .1) _ (c .before .before .ordinal-at2 .ensures) (c .before .product-at-most .ensures) (c .if1 .left),
-)
+loop-again c = (search needs, none-turn _ _ _ _ (c .before .before .before .before .before .before .before .before .before .before .before .pre) _ (c .before .before .before .before .before .before .loop-test .taken) _ (c .before .before .before .before .before .before .before .loop .inv .1) _ (c .before .before .ordinal-at2 .ensures) (c .before .overtakes .ensures) (c .if1 .left))
 
 pub steps-back-spec : {M : Type 1} → statement M
 steps-back-spec =
