@@ -8,7 +8,9 @@ use rules::StepsBackAnswer;
 use rules::TimeAnswer;
 
 const LINE_END: u8 = 10;
+
 const BLANK: u8 = 32;
+
 const NO_BYTES: u8 = 46;
 // The ordinal of the time 0.
 const ZERO: u64 = 9223372036854775808;

@@ -4,6 +4,7 @@ ghost use lib.ListN.{length};
 use libc::STDIN_FILENO;
 
 pub(crate) const LONGEST_LINE: usize = 8192;
+
 const LINE_END: u8 = 10;
 
 pub(crate) type Chunk = [u8; 65536];

@@ -2,15 +2,15 @@
 mod input;
 mod questions;
 
+use input::Input;
+use input::LONGEST_LINE;
+use input::LineBuffer;
+use libc::STDOUT_FILENO;
 use script::entries::Change;
 use script::entries::LayoutNumbers;
 use script::entries::Lists;
 use script::entries::Sizes;
 use script::entries::TimeList;
-use input::Input;
-use input::LONGEST_LINE;
-use input::LineBuffer;
-use libc::STDOUT_FILENO;
 use script::words;
 
 type Output = [u8; 65536];
@@ -31,7 +31,16 @@ fn main() {
     while turns > 0 && input.open {
         place = written(input, &out, place);
         input = input::next(input, &mut chunk, &mut line);
-        place = take_line(input, &line, &mut layout, &mut sizes, &mut lists, &mut times, &mut out, place);
+        place = take_line(
+            input,
+            &line,
+            &mut layout,
+            &mut sizes,
+            &mut lists,
+            &mut times,
+            &mut out,
+            place,
+        );
         turns -= 1;
     }
     written(input, &out, place);

@@ -64,13 +64,23 @@ fn kind_of(line: &[u8], at: usize) -> Kind {
     Kind::Other
 }
 
-fn read_text(line: &[u8], at: usize, layout: &LayoutNumbers, out: &mut [u8], place: usize) -> usize {
+fn read_text(
+    line: &[u8],
+    at: usize,
+    layout: &LayoutNumbers,
+    out: &mut [u8],
+    place: usize,
+) -> usize {
     let mut text = [0u8; 2000];
     let length = words::hex_bytes(line, at, &mut text);
     if MOST_BYTES < length {
         return answers::put_bad(out, place);
     }
-    answers::put_count(out, place, text::read_text(entries::layout_of(layout), &text[0..length]))
+    answers::put_count(
+        out,
+        place,
+        text::read_text(entries::layout_of(layout), &text[0..length]),
+    )
 }
 
 fn read_stamp(
@@ -89,7 +99,11 @@ fn read_stamp(
     }
     let starts = entries::held(lists, entries::STARTS, sizes);
     let ends = entries::held(lists, entries::ENDS, sizes);
-    answers::put_count(out, place, text::read_stamp(entries::layout_of(layout), starts, ends, &text[0..length]))
+    answers::put_count(
+        out,
+        place,
+        text::read_stamp(entries::layout_of(layout), starts, ends, &text[0..length]),
+    )
 }
 
 fn read_message(
@@ -111,7 +125,12 @@ fn read_message(
     answers::put_count(
         out,
         place,
-        message::read_message(entries::layout_of(layout), starts, ends, &message[0..length]),
+        message::read_message(
+            entries::layout_of(layout),
+            starts,
+            ends,
+            &message[0..length],
+        ),
     )
 }
 
@@ -122,7 +141,11 @@ fn forward(line: &[u8], at: usize, out: &mut [u8], place: usize) -> usize {
     if !words::ends(line, given.next) {
         return answers::put_bad(out, place);
     }
-    answers::put_double(out, place, doubles::forward(segment.segment, msf.value, given.value))
+    answers::put_double(
+        out,
+        place,
+        doubles::forward(segment.segment, msf.value, given.value),
+    )
 }
 
 fn back(line: &[u8], at: usize, out: &mut [u8], place: usize) -> usize {
@@ -132,7 +155,11 @@ fn back(line: &[u8], at: usize, out: &mut [u8], place: usize) -> usize {
     if !words::ends(line, given.next) {
         return answers::put_bad(out, place);
     }
-    answers::put_double(out, place, doubles::back(segment.segment, msf.value, given.value))
+    answers::put_double(
+        out,
+        place,
+        doubles::back(segment.segment, msf.value, given.value),
+    )
 }
 
 fn segment_words(line: &[u8], at: usize) -> Segment {

@@ -9,6 +9,7 @@ ghost use Rattle.script.specs.Lines.{passedOver};
 ghost use Rattle.script.specs.Places.{nowhere};
 
 pub const NOWHERE: usize = 18446744073709551615;
+
 const ZERO_TIME: u64 = 9223372036854775808;
 
 pub struct Number {
@@ -111,7 +112,10 @@ fn before_zero(number: Number) -> SignedNumber
 {
     let value = number.value;
     if ZERO_TIME < value {
-        return SignedNumber { value: 0, next: NOWHERE };
+        return SignedNumber {
+            value: 0,
+            next: NOWHERE,
+        };
     }
     SignedNumber {
         value: signed::from_ordinal(ZERO_TIME - value),
@@ -124,7 +128,10 @@ fn from_zero(number: Number) -> SignedNumber
 {
     let value = number.value;
     if ZERO_TIME <= value {
-        return SignedNumber { value: 0, next: NOWHERE };
+        return SignedNumber {
+            value: 0,
+            next: NOWHERE,
+        };
     }
     SignedNumber {
         value: signed::from_ordinal(ZERO_TIME + value),
@@ -228,7 +235,10 @@ fn pair(word: &[u8], i: usize) -> u64 {
 fn nothing() -> Number
     ensures { λ r. ⌜ (r .value ≡ 0) × (r .next ≡ nowhere) ⌝ }
 {
-    Number { value: 0, next: NOWHERE }
+    Number {
+        value: 0,
+        next: NOWHERE,
+    }
 }
 
 // The place after the one blank at `at`.

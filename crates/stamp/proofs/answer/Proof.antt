@@ -1,0 +1,19 @@
+use Rattle.stamp.proofs.Laws.{has-count, no-count}
+use borrow.Author.Needs.{needs}
+use Rattle.stamp.proofs.answer.Statement.{statement}
+use Rattle.stamp.proofs.answer.Tie as tie
+
+pub answer-spec : {M : Type 1} → statement M
+answer-spec =
+    tie.close
+    (tie.spec
+    (λ c κs. search needs)
+    (λ c. search needs)
+    (λ c. search needs)
+    (λ c κs. search needs)
+    (λ c. search needs)
+    (λ c κs. search needs)
+    (λ c. search needs)
+    (λ c κs. search needs)
+    (λ c. search (has-count, needs))
+    (λ c. search (no-count, needs)))

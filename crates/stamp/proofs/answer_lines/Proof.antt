@@ -1,0 +1,38 @@
+use Prim.Native.Nat.{_-_, _≤_}
+use mathlib.Core.Path.{_≡_}
+use lib.ListN.{length, take, drop}
+use borrow.Author.Needs.{needs}
+use Rattle.lines.specs.Lines.{lineBuffer}
+use Rattle.lines.specs.Steps.{lineLeft}
+use Rattle.lines.proofs.Turn.{left-turn, left-done}
+use Rattle.stamp.proofs.answer_lines.Statement.{statement}
+use Rattle.stamp.proofs.answer_lines.Tie as tie
+
+abbrev Inv-loop : tie.InvT-loop
+Inv-loop chunk line₀ kept out₀ at₀ held₀ place₀ line out at held place = (at ≤ length chunk) × (held ≤ lineBuffer) × (length line ≡ length line₀) × (lineLeft (take kept line₀) chunk ≡ lineLeft (take held line) (drop at chunk))
+
+abbrev μ-loop : tie.MeasureT-loop
+μ-loop chunk line₀ kept out₀ at₀ held₀ place₀ line out at held place = length chunk - at
+
+loop-again : tie.Need-loop-again Inv-loop μ-loop
+loop-again c = (search needs, search needs, search needs, search (left-turn, needs))
+
+returns : tie.Need-returns Inv-loop μ-loop
+returns c = (search needs, search (left-done, needs))
+
+pub answer-lines-spec : {M : Type 1} → statement M
+answer-lines-spec =
+    tie.close
+    (tie.spec
+    Inv-loop
+    μ-loop
+    (λ c κs. search needs)
+    (λ c. search needs)
+    (λ c. search needs)
+    (λ c κs. search needs)
+    (λ c κs. search needs)
+    (λ c. search needs)
+    loop-again
+    (λ c κs. search needs)
+    (λ c. search needs)
+    returns)
