@@ -1,6 +1,7 @@
 -- A text written into a buffer from right to left, part by part.
---     put-nothing, put-byte, put-append, put-length, put-front     bytes in a buffer
---     left-all, left-room, left-next, left-done, left-nothing               what of a text is left to write
+--     put-nothing, put-byte, put-front, put-length, put-append     bytes in a buffer
+--     left-all, left-room, left-next, left-done, left-nothing      what of a text is left to write
+--     written-length, written-append, written-cons, byte-written   a text that is written
 use Prim.Native.Nat.{ℕ, _+_, _-_, _≤_, _<_}
 use mathlib.Core.Path.{_≡_, refl, sym, _∙_}
 use mathlib.Core.List.{List, [], _∷_, _++_, append-assoc}
@@ -32,9 +33,6 @@ pub put-append : (s t : List ℕ) (at : ℕ) (b : List ℕ) → at + length s + 
 unfolding put
 put-append s t at b h = rw (front, back, length-append, ← (add-assoc at (length s) (length t)), append-assoc)
   where
-    rest : List ℕ
-    rest = t ++ drop (at + length s + length t) b
-
     long : length (take (at + length s) b) ≡ at + length s
     long = length-take-le (at + length s) b (omega arith)
 

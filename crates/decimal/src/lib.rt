@@ -1,4 +1,4 @@
-// Decimal digits: how many a number has, and writing them into a buffer.
+// Decimal digits: how many a number has, and writing them into a buffer from right to left.
 ghost use Prim.Native.Nat.{_+_, _<_, _≤_};
 ghost use mathlib.Core.Path.{_≡_};
 ghost use mathlib.Core.List.{[], _∷_};
@@ -44,7 +44,7 @@ pub fn write_digits(x: u64, width: usize, end: usize, buffer: &mut [u8]) -> usiz
     at
 }
 
-// Writes one byte so that it ends at index end, and answers where it stands.
+// Writes one byte, just before index end, and answers where it stands.
 pub fn write_byte(byte: u8, end: usize, buffer: &mut [u8]) -> usize
     requires { ⌜ Room (byte ∷ []) end (now buffer) ⌝ }
     ensures { λ r. ⌜ Written (byte ∷ []) end r (now (buffer .entry)) (now (buffer .exit)) ⌝ }

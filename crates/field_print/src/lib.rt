@@ -7,7 +7,7 @@ ghost use Rattle.rules.specs.Print.{fieldWidth, fieldPrint, fieldsPrint};
 ghost use Rattle.decimal.specs.Writing.{Room, Written};
 ghost use Rattle.field_print.specs.Facts.{FieldFacts, FieldsFacts, FieldsLength};
 
-// How many bytes the fields of a count print to, whatever the delimiter.
+// How many bytes the fields of a count print to, whatever the delimiter. A field has at most 20 digits and a delimiter.
 pub fn fields_length(count: u64, moduli: &[u64], offsets: &[u64]) -> usize
     requires { ⌜ FieldsFacts count (now moduli) (now offsets) ⌝ }
     ensures { λ r. ⌜ FieldsLength count (now (moduli .entry)) (now (offsets .entry)) r ⌝ }
