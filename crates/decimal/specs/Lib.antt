@@ -1,0 +1,2 @@
+-- What the writers require and ensure.
+pub mod Writing

@@ -1,0 +1,2 @@
+-- What decoding asks of an encoded count and its partitions.
+pub mod Decodable

@@ -1,0 +1,2 @@
+-- What the fields of a count must be to be printed.
+pub mod Facts

@@ -1,0 +1,2 @@
+-- What a print answers and leaves in the buffer.
+pub mod Printed

@@ -1,0 +1,119 @@
+// Printing a count, or an encoded count as a stamp, to the front of a lent buffer. The answer is the print's length.
+// A refusal leaves every byte of the buffer; an answer writes the print and no byte after it.
+ghost use Prim.Native.Nat.{_≤_, _<_};
+ghost use mathlib.Core.Path.{_≡_};
+ghost use lib.ListN.{length};
+ghost use Rattle.rules.specs.Answer.{printAnswer};
+ghost use Rattle.rules.specs.Facts.{LayoutFacts, PartitionsFacts};
+ghost use Rattle.rules.specs.Layout.{productOf};
+ghost use Rattle.rules.specs.Limits.{lastDelimiter};
+ghost use Rattle.rules.specs.Partitions.{partitions, totalOf};
+ghost use Rattle.rules.specs.Print.{delimiterByte, countPrint, stampPrint, fitting, printCount, printStamp, lengthPrinted, bufferAfter};
+ghost use Rattle.print.specs.Printed.{Printed};
+use crate::front::print_fields;
+use crate::front::print_numbered;
+use crate::front::refused;
+use decode::decode;
+use rules::Layout;
+use rules::PrintAnswer;
+use tables::Acceptance;
+
+mod front;
+
+// Prints a count below P as clock text.
+pub fn print_count(layout: Layout, count: u64, buffer: &mut [u8]) -> PrintAnswer
+    ensures { λ r. ⌜ printAnswer r ≡ lengthPrinted (printCount layout count (length (now (buffer .entry)))) ⌝ }
+    ensures { λ r. ⌜ now (buffer .exit) ≡ bufferAfter (printCount layout count (length (now (buffer .entry)))) (now (buffer .entry)) ⌝ }
+{
+    let measured = layouts::measure(layout);
+    if !measured.ok {
+        return refused(refusals::LAYOUT);
+    }
+    if measured.product <= count {
+        return refused(refusals::TOO_LARGE);
+    }
+    count_of(layout, count, buffer)
+}
+
+// Prints an encoded count up to the total as a stamp.
+pub fn print_stamp(
+    layout: Layout,
+    starts: &[u64],
+    ends: &[u64],
+    encoded: u64,
+    buffer: &mut [u8],
+) -> PrintAnswer
+    ensures { λ r. ⌜ printAnswer r ≡ lengthPrinted (printStamp layout (partitions (now (starts .entry)) (now (ends .entry))) encoded (length (now (buffer .entry)))) ⌝ }
+    ensures { λ r. ⌜ now (buffer .exit) ≡ bufferAfter (printStamp layout (partitions (now (starts .entry)) (now (ends .entry))) encoded (length (now (buffer .entry)))) (now (buffer .entry)) ⌝ }
+{
+    match tables::accept_stamps(layout, starts, ends) {
+        Acceptance::Refused(number) => refused(number),
+        Acceptance::Accepted(basis) => {
+            if basis.total < encoded {
+                return refused(refusals::BEYOND_TOTAL);
+            }
+            stamp_of(layout, starts, ends, encoded, buffer)
+        }
+    }
+}
+
+fn count_of(layout: Layout, count: u64, buffer: &mut [u8]) -> PrintAnswer
+    requires { ⌜ LayoutFacts layout ⌝ }
+    requires { ⌜ count < productOf layout ⌝ }
+    ensures { λ r. ⌜ Printed (fitting (length (now (buffer .entry))) (countPrint layout count)) r (now (buffer .entry)) (now (buffer .exit)) ⌝ }
+{
+    let n = layout.n;
+    let moduli = layout.moduli;
+    let offsets = layout.offsets;
+    let delimiter = delimiter_byte(layout.delimiter);
+    print_fields(delimiter, count, &moduli[..n], &offsets[..n], buffer)
+}
+
+fn stamp_of(
+    layout: Layout,
+    starts: &[u64],
+    ends: &[u64],
+    encoded: u64,
+    buffer: &mut [u8],
+) -> PrintAnswer
+    requires { ⌜ LayoutFacts layout ⌝ }
+    requires { ⌜ PartitionsFacts layout (partitions (now starts) (now ends)) ⌝ }
+    requires { ⌜ encoded ≤ totalOf (partitions (now starts) (now ends)) ⌝ }
+    ensures { λ r. ⌜ Printed (fitting (length (now (buffer .entry))) (stampPrint layout (partitions (now (starts .entry)) (now (ends .entry))) encoded)) r (now (buffer .entry)) (now (buffer .exit)) ⌝ }
+{
+    let place = decode(starts, ends, encoded);
+    let partition = place.partition;
+    let count = place.count;
+    let n = layout.n;
+    let moduli = layout.moduli;
+    let offsets = layout.offsets;
+    let delimiter = delimiter_byte(layout.delimiter);
+    print_numbered(
+        partition,
+        delimiter,
+        count,
+        &moduli[..n],
+        &offsets[..n],
+        buffer,
+    )
+}
+
+// "1 `.`, 2 `:`, 3 `-`, 4 `,`, 5 blank"
+fn delimiter_byte(code: u8) -> u8
+    requires { ⌜ (1 ≤ code) × (code ≤ lastDelimiter) ⌝ }
+    ensures { λ r. ⌜ r ≡ delimiterByte code ⌝ }
+{
+    if code == 1 {
+        return b'.';
+    }
+    if code == 2 {
+        return b':';
+    }
+    if code == 3 {
+        return b'-';
+    }
+    if code == 4 {
+        return b',';
+    }
+    b' '
+}
