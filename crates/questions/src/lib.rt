@@ -1,0 +1,141 @@
+// The questions of a script, each over one public call.
+ghost use Rattle.answers.specs.Places.{Put};
+use doubles::DoubleSegment;
+use rules::CountAnswer;
+use rules::Layout;
+use script::words;
+
+// The most bytes of a text or a message.
+const MOST_BYTES: usize = 2000;
+
+enum Kind {
+    ReadText,
+    ReadStamp,
+    ReadMessage,
+    Forward,
+    Back,
+    Other,
+}
+
+// What bytes are read as.
+enum Form {
+    Text,
+    Stamp,
+    Message,
+}
+
+// A segment in doubles, and the place after its three words.
+struct Segment {
+    segment: DoubleSegment,
+    next: usize,
+}
+
+// Puts the answer to the line's question at `place`, and answers the place after it. A line that asks nothing is bad.
+pub fn answer(
+    line: &[u8],
+    at: usize,
+    layout: Layout,
+    starts: &[u64],
+    ends: &[u64],
+    counts: &[u64],
+    times: &[i64],
+    rates: &[u64],
+    out: &mut [u8],
+    place: usize,
+) -> usize
+    ensures { λ r. ⌜ Put place (now (out .entry)) r ⌝ }
+{
+    match kind_of(line, at) {
+        Kind::ReadText => read(line, at, Form::Text, layout, starts, ends, out, place),
+        Kind::ReadStamp => read(line, at, Form::Stamp, layout, starts, ends, out, place),
+        Kind::ReadMessage => read(line, at, Form::Message, layout, starts, ends, out, place),
+        Kind::Forward => forward(line, at, out, place),
+        Kind::Back => back(line, at, out, place),
+        Kind::Other => answers::put_bad(out, place),
+    }
+}
+
+fn kind_of(line: &[u8], at: usize) -> Kind {
+    if words::is_first(line, at, b"read-text") {
+        return Kind::ReadText;
+    }
+    if words::is_first(line, at, b"read-stamp") {
+        return Kind::ReadStamp;
+    }
+    if words::is_first(line, at, b"read-message") {
+        return Kind::ReadMessage;
+    }
+    if words::is_first(line, at, b"forward") {
+        return Kind::Forward;
+    }
+    if words::is_first(line, at, b"back") {
+        return Kind::Back;
+    }
+    Kind::Other
+}
+
+fn read(
+    line: &[u8],
+    at: usize,
+    form: Form,
+    layout: Layout,
+    starts: &[u64],
+    ends: &[u64],
+    out: &mut [u8],
+    place: usize,
+) -> usize
+    ensures { λ r. ⌜ Put place (now (out .entry)) r ⌝ }
+{
+    let mut bytes = [0u8; 2000];
+    let length = words::hex_bytes(line, at, &mut bytes);
+    if MOST_BYTES < length {
+        return answers::put_bad(out, place);
+    }
+    answers::put_count(out, place, read_as(form, layout, starts, ends, &bytes[0..length]))
+}
+
+fn read_as(form: Form, layout: Layout, starts: &[u64], ends: &[u64], bytes: &[u8]) -> CountAnswer {
+    match form {
+        Form::Text => text::read_text(layout, bytes),
+        Form::Stamp => text::read_stamp(layout, starts, ends, bytes),
+        Form::Message => message::read_message(layout, starts, ends, bytes),
+    }
+}
+
+fn forward(line: &[u8], at: usize, out: &mut [u8], place: usize) -> usize
+    ensures { λ r. ⌜ Put place (now (out .entry)) r ⌝ }
+{
+    let segment = segment_words(line, at);
+    let msf = words::decimal(line, segment.next);
+    let given = words::decimal(line, msf.next);
+    if !words::ends(line, given.next) {
+        return answers::put_bad(out, place);
+    }
+    answers::put_double(out, place, doubles::forward(segment.segment, msf.value, given.value))
+}
+
+fn back(line: &[u8], at: usize, out: &mut [u8], place: usize) -> usize
+    ensures { λ r. ⌜ Put place (now (out .entry)) r ⌝ }
+{
+    let segment = segment_words(line, at);
+    let msf = words::decimal(line, segment.next);
+    let given = words::double_bits(line, msf.next);
+    if !words::ends(line, given.next) {
+        return answers::put_bad(out, place);
+    }
+    answers::put_double(out, place, doubles::back(segment.segment, msf.value, given.value))
+}
+
+fn segment_words(line: &[u8], at: usize) -> Segment {
+    let count = words::double_bits(line, at);
+    let time = words::double_bits(line, count.next);
+    let rate = words::double_bits(line, time.next);
+    Segment {
+        segment: DoubleSegment {
+            count: count.value,
+            time: time.value,
+            rate: rate.value,
+        },
+        next: rate.next,
+    }
+}
