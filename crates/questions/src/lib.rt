@@ -12,6 +12,9 @@ enum Kind {
     ReadText,
     ReadStamp,
     ReadMessage,
+    TimeOf,
+    CountAt,
+    StepsBack,
     Forward,
     Back,
     Other,
@@ -49,6 +52,9 @@ pub fn answer(
         Kind::ReadText => read(line, at, Form::Text, layout, starts, ends, out, place),
         Kind::ReadStamp => read(line, at, Form::Stamp, layout, starts, ends, out, place),
         Kind::ReadMessage => read(line, at, Form::Message, layout, starts, ends, out, place),
+        Kind::TimeOf => time_of(line, at, layout, starts, ends, counts, times, rates, out, place),
+        Kind::CountAt => count_at(line, at, layout, starts, ends, counts, times, rates, out, place),
+        Kind::StepsBack => steps_back(line, at, layout, starts, ends, counts, times, rates, out, place),
         Kind::Forward => forward(line, at, out, place),
         Kind::Back => back(line, at, out, place),
         Kind::Other => answers::put_bad(out, place),
@@ -64,6 +70,15 @@ fn kind_of(line: &[u8], at: usize) -> Kind {
     }
     if words::is_first(line, at, b"read-message") {
         return Kind::ReadMessage;
+    }
+    if words::is_first(line, at, b"time-of") {
+        return Kind::TimeOf;
+    }
+    if words::is_first(line, at, b"count-at") {
+        return Kind::CountAt;
+    }
+    if words::is_first(line, at, b"steps-back") {
+        return Kind::StepsBack;
     }
     if words::is_first(line, at, b"forward") {
         return Kind::Forward;
@@ -100,6 +115,68 @@ fn read_as(form: Form, layout: Layout, starts: &[u64], ends: &[u64], bytes: &[u8
         Form::Stamp => text::read_stamp(layout, starts, ends, bytes),
         Form::Message => message::read_message(layout, starts, ends, bytes),
     }
+}
+
+fn time_of(
+    line: &[u8],
+    at: usize,
+    layout: Layout,
+    starts: &[u64],
+    ends: &[u64],
+    counts: &[u64],
+    times: &[i64],
+    rates: &[u64],
+    out: &mut [u8],
+    place: usize,
+) -> usize
+    ensures { λ r. ⌜ Put place (now (out .entry)) r ⌝ }
+{
+    let encoded = words::decimal(line, at);
+    if !words::ends(line, encoded.next) {
+        return answers::put_bad(out, place);
+    }
+    answers::put_time(out, place, time::time_of(layout, starts, ends, counts, times, rates, encoded.value))
+}
+
+fn count_at(
+    line: &[u8],
+    at: usize,
+    layout: Layout,
+    starts: &[u64],
+    ends: &[u64],
+    counts: &[u64],
+    times: &[i64],
+    rates: &[u64],
+    out: &mut [u8],
+    place: usize,
+) -> usize
+    ensures { λ r. ⌜ Put place (now (out .entry)) r ⌝ }
+{
+    let time = words::time(line, at);
+    if !words::ends(line, time.next) {
+        return answers::put_bad(out, place);
+    }
+    answers::put_count(out, place, time::count_at(layout, starts, ends, counts, times, rates, time.value))
+}
+
+fn steps_back(
+    line: &[u8],
+    at: usize,
+    layout: Layout,
+    starts: &[u64],
+    ends: &[u64],
+    counts: &[u64],
+    times: &[i64],
+    rates: &[u64],
+    out: &mut [u8],
+    place: usize,
+) -> usize
+    ensures { λ r. ⌜ Put place (now (out .entry)) r ⌝ }
+{
+    if !words::ends(line, at) {
+        return answers::put_bad(out, place);
+    }
+    answers::put_steps_back(out, place, tables::steps_back(layout, starts, ends, counts, times, rates))
 }
 
 fn forward(line: &[u8], at: usize, out: &mut [u8], place: usize) -> usize
