@@ -3,6 +3,7 @@ ghost use Rattle.answers.specs.Places.{Put};
 use doubles::DoubleSegment;
 use rules::CountAnswer;
 use rules::Layout;
+use rules::PrintAnswer;
 use script::words;
 
 // The most bytes of a text or a message.
@@ -12,6 +13,8 @@ enum Kind {
     ReadText,
     ReadStamp,
     ReadMessage,
+    PrintCount,
+    PrintStamp,
     TimeOf,
     CountAt,
     StepsBack,
@@ -25,6 +28,12 @@ enum Form {
     Text,
     Stamp,
     Message,
+}
+
+// What a number is printed as.
+enum Printed {
+    Count,
+    Stamp,
 }
 
 // A segment in doubles, and the place after its three words.
@@ -52,6 +61,8 @@ pub fn answer(
         Kind::ReadText => read(line, at, Form::Text, layout, starts, ends, out, place),
         Kind::ReadStamp => read(line, at, Form::Stamp, layout, starts, ends, out, place),
         Kind::ReadMessage => read(line, at, Form::Message, layout, starts, ends, out, place),
+        Kind::PrintCount => print_line(line, at, Printed::Count, layout, starts, ends, out, place),
+        Kind::PrintStamp => print_line(line, at, Printed::Stamp, layout, starts, ends, out, place),
         Kind::TimeOf => time_of(line, at, layout, starts, ends, counts, times, rates, out, place),
         Kind::CountAt => count_at(line, at, layout, starts, ends, counts, times, rates, out, place),
         Kind::StepsBack => steps_back(line, at, layout, starts, ends, counts, times, rates, out, place),
@@ -70,6 +81,12 @@ fn kind_of(line: &[u8], at: usize) -> Kind {
     }
     if words::is_first(line, at, b"read-message") {
         return Kind::ReadMessage;
+    }
+    if words::is_first(line, at, b"print-count") {
+        return Kind::PrintCount;
+    }
+    if words::is_first(line, at, b"print-stamp") {
+        return Kind::PrintStamp;
     }
     if words::is_first(line, at, b"time-of") {
         return Kind::TimeOf;
@@ -114,6 +131,59 @@ fn read_as(form: Form, layout: Layout, starts: &[u64], ends: &[u64], bytes: &[u8
         Form::Text => text::read_text(layout, bytes),
         Form::Stamp => text::read_stamp(layout, starts, ends, bytes),
         Form::Message => message::read_message(layout, starts, ends, bytes),
+    }
+}
+
+fn print_line(
+    line: &[u8],
+    at: usize,
+    printed: Printed,
+    layout: Layout,
+    starts: &[u64],
+    ends: &[u64],
+    out: &mut [u8],
+    place: usize,
+) -> usize
+    ensures { λ r. ⌜ Put place (now (out .entry)) r ⌝ }
+{
+    let number = words::decimal(line, at);
+    let fill = words::decimal_up_to(line, number.next, 255);
+    let length = words::decimal_up_to(line, fill.next, 256);
+    if !words::ends(line, length.next) {
+        return answers::put_bad(out, place);
+    }
+    let size = length.value as usize;
+    let mut lent = [fill.value as u8; 256];
+    print_lent(printed, layout, starts, ends, number.value, &mut lent[0..size], out, place)
+}
+
+fn print_lent(
+    printed: Printed,
+    layout: Layout,
+    starts: &[u64],
+    ends: &[u64],
+    number: u64,
+    lent: &mut [u8],
+    out: &mut [u8],
+    place: usize,
+) -> usize
+    ensures { λ r. ⌜ Put place (now (out .entry)) r ⌝ }
+{
+    let answer = print_as(printed, layout, starts, ends, number, lent);
+    answers::put_print(out, place, answer, lent)
+}
+
+fn print_as(
+    printed: Printed,
+    layout: Layout,
+    starts: &[u64],
+    ends: &[u64],
+    number: u64,
+    lent: &mut [u8],
+) -> PrintAnswer {
+    match printed {
+        Printed::Count => print::print_count(layout, number, lent),
+        Printed::Stamp => print::print_stamp(layout, starts, ends, number, lent),
     }
 }
 
