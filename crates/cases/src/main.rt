@@ -1,16 +1,20 @@
 // Runs a script of cases: reads it from standard input, and answers each question on a line of standard output.
 mod input;
-mod questions;
 
+use script::entries;
+use script::entries::COUNTS;
+use script::entries::Change;
+use script::entries::ENDS;
+use script::entries::LayoutNumbers;
+use script::entries::Lists;
+use script::entries::RATES;
+use script::entries::STARTS;
+use script::entries::Sizes;
+use script::entries::TimeList;
 use input::Input;
 use input::LONGEST_LINE;
 use input::LineBuffer;
 use libc::STDOUT_FILENO;
-use script::entries::Change;
-use script::entries::LayoutNumbers;
-use script::entries::Lists;
-use script::entries::Sizes;
-use script::entries::TimeList;
 use script::words;
 
 type Output = [u8; 65536];
@@ -31,16 +35,7 @@ fn main() {
     while turns > 0 && input.open {
         place = written(input, &out, place);
         input = input::next(input, &mut chunk, &mut line);
-        place = take_line(
-            input,
-            &line,
-            &mut layout,
-            &mut sizes,
-            &mut lists,
-            &mut times,
-            &mut out,
-            place,
-        );
+        place = take_line(input, &line, &mut layout, &mut sizes, &mut lists, &mut times, &mut out, place);
         turns -= 1;
     }
     written(input, &out, place);
@@ -85,9 +80,33 @@ fn take_line(
         return place;
     }
     let at = words::first_end(line);
-    match script::entries::take(line, at, layout, sizes, lists, times) {
+    match entries::take(line, at, layout, sizes, lists, times) {
         Change::Made => place,
         Change::Bad => answers::put_bad(out, place),
-        Change::NoChange => questions::answer(line, at, layout, sizes, lists, times, out, place),
+        Change::NoChange => ask(line, at, layout, sizes, lists, times, out, place),
     }
+}
+
+fn ask(
+    line: &[u8],
+    at: usize,
+    layout: &LayoutNumbers,
+    sizes: &Sizes,
+    lists: &[u64],
+    times: &[i64],
+    out: &mut [u8],
+    place: usize,
+) -> usize {
+    questions::answer(
+        line,
+        at,
+        entries::layout_of(layout),
+        entries::held(lists, STARTS, sizes),
+        entries::held(lists, ENDS, sizes),
+        entries::held(lists, COUNTS, sizes),
+        entries::held_times(times, sizes),
+        entries::held(lists, RATES, sizes),
+        out,
+        place,
+    )
 }

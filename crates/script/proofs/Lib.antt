@@ -1,3 +1,4 @@
 -- The laws that the proofs cite.
 mod Bits
+mod Changes
 mod Lines

@@ -1,13 +1,13 @@
 // The tables: the layout as the 22 numbers of its line, and five lists, each with how many entries it holds.
 ghost use Prim.Native.Nat.{_<_, _≤_};
-use crate::words;
+ghost use Rattle.script.specs.Changes.{Keeps};
 use rules::Layout;
+use crate::words;
 
 // The numbers of a layout's line.
 pub type LayoutNumbers = [u64; 22];
 // Starts, ends, counts and rates, one list behind the other.
 pub type Lists = [u64; 40004];
-
 pub type TimeList = [i64; 10001];
 // How many entries each list holds.
 pub type Sizes = [usize; 5];
@@ -16,13 +16,9 @@ const MOST_ENTRIES: usize = 10001;
 
 // The lists' numbers.
 pub const STARTS: usize = 0;
-
 pub const ENDS: usize = 1;
-
 pub const COUNTS: usize = 2;
-
 pub const RATES: usize = 3;
-
 pub const TIMES: usize = 4;
 
 // What a line does to the tables: `NoChange` where it is none of their lines.
@@ -51,7 +47,12 @@ pub fn take(
     sizes: &mut Sizes,
     lists: &mut Lists,
     times: &mut TimeList,
-) -> Change {
+) -> Change
+    ensures { λ r. ⌜ Keeps r (now (layout .entry)) (now (layout .exit)) ⌝ }
+    ensures { λ r. ⌜ Keeps r (now (sizes .entry)) (now (sizes .exit)) ⌝ }
+    ensures { λ r. ⌜ Keeps r (now (lists .entry)) (now (lists .exit)) ⌝ }
+    ensures { λ r. ⌜ Keeps r (now (times .entry)) (now (times .exit)) ⌝ }
+{
     match kind_of(line, at) {
         Kind::Layout => set_layout(line, at, layout),
         Kind::Partitions => no_partitions(line, at, sizes),
@@ -95,6 +96,8 @@ fn kind_of(line: &[u8], at: usize) -> Kind {
 
 fn add(line: &[u8], at: usize, sizes: &mut Sizes, list: usize, lists: &mut Lists) -> Change
     requires { ⌜ list < 4 ⌝ }
+    ensures { λ r. ⌜ Keeps r (now (sizes .entry)) (now (sizes .exit)) ⌝ }
+    ensures { λ r. ⌜ Keeps r (now (lists .entry)) (now (lists .exit)) ⌝ }
 {
     let number = words::decimal(line, at);
     if !words::ends(line, number.next) {
@@ -109,7 +112,10 @@ fn add(line: &[u8], at: usize, sizes: &mut Sizes, list: usize, lists: &mut Lists
     Change::Made
 }
 
-fn add_time(line: &[u8], at: usize, sizes: &mut Sizes, times: &mut TimeList) -> Change {
+fn add_time(line: &[u8], at: usize, sizes: &mut Sizes, times: &mut TimeList) -> Change
+    ensures { λ r. ⌜ Keeps r (now (sizes .entry)) (now (sizes .exit)) ⌝ }
+    ensures { λ r. ⌜ Keeps r (now (times .entry)) (now (times .exit)) ⌝ }
+{
     let time = words::time(line, at);
     if !words::ends(line, time.next) {
         return Change::Bad;
@@ -124,7 +130,9 @@ fn add_time(line: &[u8], at: usize, sizes: &mut Sizes, times: &mut TimeList) -> 
     Change::Made
 }
 
-fn no_partitions(line: &[u8], at: usize, sizes: &mut Sizes) -> Change {
+fn no_partitions(line: &[u8], at: usize, sizes: &mut Sizes) -> Change
+    ensures { λ r. ⌜ Keeps r (now (sizes .entry)) (now (sizes .exit)) ⌝ }
+{
     if !words::ends(line, at) {
         return Change::Bad;
     }
@@ -133,7 +141,9 @@ fn no_partitions(line: &[u8], at: usize, sizes: &mut Sizes) -> Change {
     Change::Made
 }
 
-fn no_segments(line: &[u8], at: usize, sizes: &mut Sizes) -> Change {
+fn no_segments(line: &[u8], at: usize, sizes: &mut Sizes) -> Change
+    ensures { λ r. ⌜ Keeps r (now (sizes .entry)) (now (sizes .exit)) ⌝ }
+{
     if !words::ends(line, at) {
         return Change::Bad;
     }
@@ -143,7 +153,9 @@ fn no_segments(line: &[u8], at: usize, sizes: &mut Sizes) -> Change {
     Change::Made
 }
 
-fn set_layout(line: &[u8], at: usize, layout: &mut LayoutNumbers) -> Change {
+fn set_layout(line: &[u8], at: usize, layout: &mut LayoutNumbers) -> Change
+    ensures { λ r. ⌜ Keeps r (now (layout .entry)) (now (layout .exit)) ⌝ }
+{
     let mut numbers = [0u64; 22];
     let next = words::decimals(line, at, &mut numbers);
     if !words::ends(line, next) {
