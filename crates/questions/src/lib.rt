@@ -63,9 +63,42 @@ pub fn answer(
         Kind::ReadMessage => read(line, at, Form::Message, layout, starts, ends, out, place),
         Kind::PrintCount => print_line(line, at, Printed::Count, layout, starts, ends, out, place),
         Kind::PrintStamp => print_line(line, at, Printed::Stamp, layout, starts, ends, out, place),
-        Kind::TimeOf => time_of(line, at, layout, starts, ends, counts, times, rates, out, place),
-        Kind::CountAt => count_at(line, at, layout, starts, ends, counts, times, rates, out, place),
-        Kind::StepsBack => steps_back(line, at, layout, starts, ends, counts, times, rates, out, place),
+        Kind::TimeOf => time_of(
+            line,
+            at,
+            layout,
+            starts,
+            ends,
+            counts,
+            times,
+            rates,
+            out,
+            place,
+        ),
+        Kind::CountAt => count_at(
+            line,
+            at,
+            layout,
+            starts,
+            ends,
+            counts,
+            times,
+            rates,
+            out,
+            place,
+        ),
+        Kind::StepsBack => steps_back(
+            line,
+            at,
+            layout,
+            starts,
+            ends,
+            counts,
+            times,
+            rates,
+            out,
+            place,
+        ),
         Kind::Forward => forward(line, at, out, place),
         Kind::Back => back(line, at, out, place),
         Kind::Other => answers::put_bad(out, place),
@@ -123,7 +156,11 @@ fn read(
     if MOST_BYTES < length {
         return answers::put_bad(out, place);
     }
-    answers::put_count(out, place, read_as(form, layout, starts, ends, &bytes[0..length]))
+    answers::put_count(
+        out,
+        place,
+        read_as(form, layout, starts, ends, &bytes[0..length]),
+    )
 }
 
 fn read_as(form: Form, layout: Layout, starts: &[u64], ends: &[u64], bytes: &[u8]) -> CountAnswer {
@@ -154,7 +191,16 @@ fn print_line(
     }
     let size = length.value as usize;
     let mut lent = [fill.value as u8; 256];
-    print_lent(printed, layout, starts, ends, number.value, &mut lent[0..size], out, place)
+    print_lent(
+        printed,
+        layout,
+        starts,
+        ends,
+        number.value,
+        &mut lent[0..size],
+        out,
+        place,
+    )
 }
 
 fn print_lent(
@@ -205,7 +251,11 @@ fn time_of(
     if !words::ends(line, encoded.next) {
         return answers::put_bad(out, place);
     }
-    answers::put_time(out, place, time::time_of(layout, starts, ends, counts, times, rates, encoded.value))
+    answers::put_time(
+        out,
+        place,
+        time::time_of(layout, starts, ends, counts, times, rates, encoded.value),
+    )
 }
 
 fn count_at(
@@ -226,7 +276,11 @@ fn count_at(
     if !words::ends(line, time.next) {
         return answers::put_bad(out, place);
     }
-    answers::put_count(out, place, time::count_at(layout, starts, ends, counts, times, rates, time.value))
+    answers::put_count(
+        out,
+        place,
+        time::count_at(layout, starts, ends, counts, times, rates, time.value),
+    )
 }
 
 fn steps_back(
@@ -246,7 +300,11 @@ fn steps_back(
     if !words::ends(line, at) {
         return answers::put_bad(out, place);
     }
-    answers::put_steps_back(out, place, tables::steps_back(layout, starts, ends, counts, times, rates))
+    answers::put_steps_back(
+        out,
+        place,
+        tables::steps_back(layout, starts, ends, counts, times, rates),
+    )
 }
 
 fn forward(line: &[u8], at: usize, out: &mut [u8], place: usize) -> usize
@@ -258,7 +316,11 @@ fn forward(line: &[u8], at: usize, out: &mut [u8], place: usize) -> usize
     if !words::ends(line, given.next) {
         return answers::put_bad(out, place);
     }
-    answers::put_double(out, place, doubles::forward(segment.segment, msf.value, given.value))
+    answers::put_double(
+        out,
+        place,
+        doubles::forward(segment.segment, msf.value, given.value),
+    )
 }
 
 fn back(line: &[u8], at: usize, out: &mut [u8], place: usize) -> usize
@@ -270,7 +332,11 @@ fn back(line: &[u8], at: usize, out: &mut [u8], place: usize) -> usize
     if !words::ends(line, given.next) {
         return answers::put_bad(out, place);
     }
-    answers::put_double(out, place, doubles::back(segment.segment, msf.value, given.value))
+    answers::put_double(
+        out,
+        place,
+        doubles::back(segment.segment, msf.value, given.value),
+    )
 }
 
 fn segment_words(line: &[u8], at: usize) -> Segment {

@@ -1,13 +1,14 @@
 // The tables: the layout as the 22 numbers of its line, and five lists, each with how many entries it holds.
 ghost use Prim.Native.Nat.{_<_, _≤_};
 ghost use Rattle.script.specs.Changes.{Keeps};
-use rules::Layout;
 use crate::words;
+use rules::Layout;
 
 // The numbers of a layout's line.
 pub type LayoutNumbers = [u64; 22];
 // Starts, ends, counts and rates, one list behind the other.
 pub type Lists = [u64; 40004];
+
 pub type TimeList = [i64; 10001];
 // How many entries each list holds.
 pub type Sizes = [usize; 5];
@@ -16,9 +17,13 @@ const MOST_ENTRIES: usize = 10001;
 
 // The lists' numbers.
 pub const STARTS: usize = 0;
+
 pub const ENDS: usize = 1;
+
 pub const COUNTS: usize = 2;
+
 pub const RATES: usize = 3;
+
 pub const TIMES: usize = 4;
 
 // What a line does to the tables: `NoChange` where it is none of their lines.

@@ -1,13 +1,13 @@
 use native.Mathlib.Omega.{arith}
 use borrow.Author.Needs.{needs}
-use Rattle.cases.proofs.main.Statement.{statement}
-use Rattle.cases.proofs.main.Tie as tie
-use Rattle.cases.proofs.main.Reads as reads
-use Rattle.cases.proofs.main.Lts as lts
-use Rattle.cases.proofs.input.next.Reads as next-reads
-use Rattle.cases.proofs.input.start.Reads as start-reads
-use Rattle.cases.proofs.take_line.Reads as take-line-reads
-use Rattle.cases.proofs.written.Reads as written-reads
+use Rattle.runner.proofs.run.Statement.{statement}
+use Rattle.runner.proofs.run.Tie as tie
+use Rattle.runner.proofs.run.Reads as reads
+use Rattle.runner.proofs.run.Lts as lts
+use Rattle.runner.proofs.input.next.Reads as next-reads
+use Rattle.runner.proofs.input.start.Reads as start-reads
+use Rattle.runner.proofs.take_line.Reads as take-line-reads
+use Rattle.runner.proofs.written.Reads as written-reads
 
 abbrev Inv-loop : tie.InvT-loop
 Inv-loop layout₀ sizes₀ lists₀ times₀ chunk₀ line₀ out₀ place₀ input₀ turns₀ layout sizes lists times chunk line out place input turns =
@@ -57,8 +57,8 @@ written-requires-2 c κs = search needs
 returns : tie.Need-returns Inv-loop μ-loop
 returns c = search needs
 
-pub main-spec : {M : Type 1} → statement M
-main-spec =
+pub run-spec : {M : Type 1} → statement M
+run-spec =
     tie.close
     (tie.spec
     Inv-loop

@@ -3,11 +3,11 @@ use mathlib.Core.Path.{_≡_}
 use native.Mathlib.Omega.{arith}
 use borrow.Author.Needs.{needs}
 use lib.ListN.{length}
-use Rattle.cases.proofs.input.keep.Statement.{statement}
-use Rattle.cases.proofs.input.keep.Tie as tie
-use Rattle.cases.proofs.input.keep.Reads as reads
-use Rattle.cases.proofs.input.keep.Lts as lts
-use Rattle.cases.proofs.input.smaller.Reads as smaller-reads
+use Rattle.runner.proofs.input.keep.Statement.{statement}
+use Rattle.runner.proofs.input.keep.Tie as tie
+use Rattle.runner.proofs.input.keep.Reads as reads
+use Rattle.runner.proofs.input.keep.Lts as lts
+use Rattle.runner.proofs.input.smaller.Reads as smaller-reads
 
 abbrev Inv-loop : tie.InvT-loop
 Inv-loop line₀ kept part n i₀ line i = (i ≤ n) × (n ≤ length part) × (kept + n ≤ length line₀) × (length line ≡ length line₀)

@@ -1,0 +1,122 @@
+// Runs a script of cases: reads it from standard input, and answers each question on a line of standard output.
+// The programs that run one are this and nothing more.
+mod input;
+
+use input::Input;
+use input::LONGEST_LINE;
+use input::LineBuffer;
+use libc::STDOUT_FILENO;
+use script::entries;
+use script::entries::COUNTS;
+use script::entries::Change;
+use script::entries::ENDS;
+use script::entries::LayoutNumbers;
+use script::entries::Lists;
+use script::entries::RATES;
+use script::entries::STARTS;
+use script::entries::Sizes;
+use script::entries::TimeList;
+use script::words;
+
+type Output = [u8; 65536];
+// The output is written once less room than for the longest answer is left.
+const NEARLY_FULL: usize = 64000;
+
+pub fn run() {
+    let mut layout = [0u64; 22];
+    let mut sizes = [0usize; 5];
+    let mut lists = [0u64; 40004];
+    let mut times = [0i64; 10001];
+    let mut chunk = [0u8; 65536];
+    let mut line = [0u8; 8193];
+    let mut out = [0u8; 65536];
+    let mut place = 0;
+    let mut input = input::start();
+    let mut turns = u64::MAX;
+    while turns > 0 && input.open {
+        place = written(input, &out, place);
+        input = input::next(input, &mut chunk, &mut line);
+        place = take_line(
+            input,
+            &line,
+            &mut layout,
+            &mut sizes,
+            &mut lists,
+            &mut times,
+            &mut out,
+            place,
+        );
+        turns -= 1;
+    }
+    written(input, &out, place);
+}
+
+// Writes the output before more input is read, and where it is nearly full; answers how much of it is left.
+fn written(input: Input, out: &Output, place: usize) -> usize {
+    if place < NEARLY_FULL {
+        if input.at < input.have {
+            return place;
+        }
+    }
+    write(out, place);
+    0
+}
+
+fn write(out: &[u8], count: usize) {
+    if count <= out.len() {
+        io::write_all(STDOUT_FILENO, &out[0..count]);
+    }
+}
+
+// Where a line has ended, changes the tables as it says or puts its answer into the output, and answers the place after it.
+fn take_line(
+    input: Input,
+    buffer: &LineBuffer,
+    layout: &mut LayoutNumbers,
+    sizes: &mut Sizes,
+    lists: &mut Lists,
+    times: &mut TimeList,
+    out: &mut Output,
+    place: usize,
+) -> usize {
+    if !input.ended {
+        return place;
+    }
+    if LONGEST_LINE < input.kept {
+        return answers::put_bad(out, place);
+    }
+    let line = input::kept_line(buffer, input.kept);
+    if words::passed_over(line) {
+        return place;
+    }
+    let at = words::first_end(line);
+    match entries::take(line, at, layout, sizes, lists, times) {
+        Change::Made => place,
+        Change::Bad => answers::put_bad(out, place),
+        Change::NoChange => ask(line, at, layout, sizes, lists, times, out, place),
+    }
+}
+
+fn ask(
+    line: &[u8],
+    at: usize,
+    layout: &LayoutNumbers,
+    sizes: &Sizes,
+    lists: &[u64],
+    times: &[i64],
+    out: &mut [u8],
+    place: usize,
+) -> usize {
+    questions::answer(
+        line,
+        at,
+        entries::layout_of(layout),
+        entries::held(lists, STARTS, sizes),
+        entries::held(lists, ENDS, sizes),
+        entries::held(lists, COUNTS, sizes),
+        entries::held_times(times, sizes),
+        entries::held(lists, RATES, sizes),
+        out,
+        place,
+    )
+}
