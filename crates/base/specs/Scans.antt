@@ -4,6 +4,7 @@ use Prim.Native.Nat.{ℕ, zero, suc, _+_, _*_}
 use mathlib.Core.Bool.{Bool, true, false, _&&_, _||_, cond}
 use mathlib.Core.List.{List, [], _∷_}
 use mathlib.Core.Option.{Option, none, some}
+use lib.Dec.{eqb}
 
 -- p holds of every number below n
 unfoldable pub allBelow : (ℕ → Bool) → ℕ → Bool
@@ -50,3 +51,8 @@ all p (x ∷ xs) = p x && all p xs
 unfoldable pub product : List ℕ → ℕ
 product [] = 1
 product (x ∷ xs) = x * product xs
+
+-- k is one of ks
+unfoldable pub among : ℕ → List ℕ → Bool
+among k [] = false
+among k (j ∷ js) = eqb k j || among k js

@@ -1,5 +1,4 @@
 -- Laws of the layout check, and what a caller has of it.
-pub mod Capped
 pub mod Walks
 pub mod Slots
 pub mod Ways

@@ -9,7 +9,7 @@ use lib.Dec.{leb}
 use lib.ListN.{length, getD, take, drop}
 use borrow.Author.Tests.{le-leb, lt-leb}
 use Rattle.base.specs.Scans.{all, product}
-use Rattle.layouts.proofs.Capped.{min-stops}
+use Rattle.wide.proofs.Capped.{capped-mul}
 use Rattle.layouts.proofs.Slots.{slots-next, slots-end}
 
 -- r is the answer of the whole
@@ -46,7 +46,7 @@ module _ (p : ℕ) (xs : List ℕ) (n cap i a : ℕ) (w : ProductFrom p xs n cap
   pub product-turn : (b : ℕ) → i < n → b ≡ min (a * getD xs i 0) cap → ProductFrom p xs n cap (i + 1) b
   unfolding product
   product-turn b l h =
-      record { within = w .within; capped = omega arith; same = w .same ∙ rw (slots-next xs n i (w .within) l, h, min-stops, mul-assoc) }
+      record { within = w .within; capped = omega arith; same = w .same ∙ rw (slots-next xs n i (w .within) l, h, capped-mul, mul-assoc) }
 
   pub product-end : n ≤ i → a ≡ min p cap
   unfolding product

@@ -9,6 +9,7 @@ use lib.Dec.{eqb, leb}
 use lib.ListN.{length, take, drop, length-take}
 use borrow.Author.Tests.{eq-eqb, leb-true, le-leb}
 use native.Mathlib.Omega.{arith}
+use Rattle.base.specs.Scans.{among}
 use Rattle.base.proofs.Tests.{by-test, or-first, or-second, all-of-head, all-of-tail}
 use Rattle.rules.specs.Limits.{longestText}
 use Rattle.rules.specs.declared.Layout.{Layout}
@@ -30,7 +31,6 @@ use Rattle.outcomes.specs.Refusals.{
   timeOfRefusals,
   countAtRefusals,
   stepsBackRefusals,
-  among,
   OnlyRefuses,
   Refusals,
 }

@@ -1,10 +1,10 @@
 -- The exact set of refusals that each call can give. proofs/Refusals.antt shows that it gives no other, Given.antt that it gives each.
 use Prim.Native.Nat.{ℕ}
 use mathlib.Core.Path.{_≡_}
-use mathlib.Core.Bool.{Bool, true, false, _||_}
+use mathlib.Core.Bool.{true}
 use mathlib.Core.List.{List, [], _∷_}
 use lib.IntN.{ℤ}
-use lib.Dec.{eqb}
+use Rattle.base.specs.Scans.{among}
 use Rattle.rules.specs.declared.Layout.{Layout}
 use Rattle.rules.specs.Answer.{Answer, refused}
 use Rattle.rules.specs.Partitions.{Partitions}
@@ -41,11 +41,6 @@ countAtRefusals = 1 ∷ 2 ∷ 3 ∷ 13 ∷ 14 ∷ []
 
 unfoldable pub stepsBackRefusals : List ℕ
 stepsBackRefusals = 1 ∷ 2 ∷ 3 ∷ []
-
--- k is one of ks
-unfoldable pub among : ℕ → List ℕ → Bool
-among k [] = false
-among k (j ∷ js) = eqb k j || among k js
 
 -- every refusal of a call is one of ks
 abbrev pub OnlyRefuses : {A : Type 0} → List ℕ → Answer A → Type 0

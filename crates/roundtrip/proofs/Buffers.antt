@@ -13,7 +13,7 @@ use Rattle.rules.specs.Text.{readText}
 use Rattle.rules.specs.Stamp.{readStamp}
 use Rattle.rules.specs.Print.{countPrint, stampPrint, fitting, printCount, printStamp, lengthPrinted, bufferAfter}
 use Rattle.roundtrip.specs.RoundTrip.{TenSlots, CountCallReadsBack, StampCallReadsBack}
-use Rattle.roundtrip.proofs.Answers.{not-answer, unless-test, unless-rest}
+use Rattle.rules.proofs.Answers.{not-answer, unless-test, unless-rest}
 use Rattle.roundtrip.proofs.Counts.{count-reads-back}
 use Rattle.roundtrip.proofs.Stamps.{stamp-reads-back}
 

@@ -20,7 +20,7 @@ use Rattle.rules.specs.Text.{isAllowed, fieldsOf, fieldsCount, readText}
 use Rattle.rules.specs.Stamp.{slashIn, holds, encodedIn, encodeFound, encodeFirst, stampAt, readStamp}
 use Rattle.roundtrip.specs.Unnamed.{Holds, FirstToHold, NoneHolds, UnnamedStamp, UnnamedRefused}
 use Rattle.base.proofs.Lists.{all-getD}
-use Rattle.roundtrip.proofs.Answers.{not-answer, unless-test, unless-rest}
+use Rattle.rules.proofs.Answers.{not-answer, unless-test, unless-rest}
 
 module _ (p : Partitions) (c : ℕ) where
   pub encode-first : (i : ℕ) → First (holds p c) (partitionsIn p) i → encodeFirst p c ≡ answer (encodedIn p c i)

@@ -1,20 +1,10 @@
--- A guard `unless k t` that gave an answer, or a refusal, whatever follows it.
+-- A guard `unless k t` that was passed, or that refused, whatever follows it.
 use Prim.Native.Nat.{ℕ}
 use mathlib.Core.Path.{_≡_, refl}
 use mathlib.Core.Bool.{Bool, true, false}
 use Rattle.rules.specs.Answer.{Answer, answer, refused, unless}
 
 module _ {A : Type 0} where
-  pub answered-test : (k : ℕ) (t : Bool) (x : Answer A) (a : A) → unless k t x ≡ answer a → t ≡ true
-  unfolding unless
-  answered-test k true x a e = refl
-  answered-test k false x a e = cc
-
-  pub answered-rest : (k : ℕ) (t : Bool) (x : Answer A) (a : A) → unless k t x ≡ answer a → x ≡ answer a
-  unfolding unless
-  answered-rest k true x a e = e
-  answered-rest k false x a e = cc
-
   pub passed : (k : ℕ) (t : Bool) (x y : Answer A) → t ≡ true → y ≡ x → y ≡ unless k t x
   unfolding unless
   passed k t x y h e = rw h e

@@ -14,7 +14,8 @@ use Rattle.tables.specs.declared.Basis.{Basis}
 use Rattle.tables.specs.declared.Acceptance.{Acceptance}
 use Rattle.tables.specs.declared.Acceptance.the-variants.{Accepted, Refused}
 use Rattle.tables.specs.Accept.{basis, acceptance, acceptedStamps, StampsFacts, TableFacts}
-use Rattle.tables.proofs.Guards.{answered-test, answered-rest, passed, refused-same}
+use Rattle.tables.proofs.Guards.{passed, refused-same}
+use Rattle.rules.proofs.Answers.{unless-test, unless-rest}
 
 -- two answers with one payload
 payload : {A : Type 0} {x y : A} → answer x ≡ answer y → x ≡ y
@@ -23,16 +24,16 @@ payload q = cc
 -- an answer that is the basis behind two guards
 module _ (l : Layout) (p : Partitions) (b : Basis) (two : unless 1 (layoutOk l) (unless 2 (partitionsOk l p) (answer (basis l p))) ≡ answer b) where
   second : unless 2 (partitionsOk l p) (answer (basis l p)) ≡ answer b
-  second = answered-rest 1 (layoutOk l) _ b two
+  second = unless-rest 1 (layoutOk l) _ b two
 
   same : basis l p ≡ b
-  same = payload (answered-rest 2 (partitionsOk l p) _ b second)
+  same = payload (unless-rest 2 (partitionsOk l p) _ b second)
 
   facts-behind : StampsFacts l p b
   facts-behind =
       record {
-        layout = layout-facts l (answered-test 1 (layoutOk l) _ b two);
-        partitions = partitions-facts l p (answered-test 2 (partitionsOk l p) _ b second);
+        layout = layout-facts l (unless-test 1 (layoutOk l) _ b two);
+        partitions = partitions-facts l p (unless-test 2 (partitionsOk l p) _ b second);
         product = rw (← same);
         unit = rw (← same);
         total = rw (← same);
@@ -40,8 +41,8 @@ module _ (l : Layout) (p : Partitions) (b : Basis) (two : unless 1 (layoutOk l) 
 
   behind : {A : Type 0} (x a : Answer A) → x ≡ a → x ≡ unless 1 (layoutOk l) (unless 2 (partitionsOk l p) a)
   behind x a q =
-      passed 1 (layoutOk l) (unless 2 (partitionsOk l p) a) x (answered-test 1 (layoutOk l) _ b two)
-      (passed 2 (partitionsOk l p) a x (answered-test 2 (partitionsOk l p) _ b second) q)
+      passed 1 (layoutOk l) (unless 2 (partitionsOk l p) a) x (unless-test 1 (layoutOk l) _ b two)
+      (passed 2 (partitionsOk l p) a x (unless-test 2 (partitionsOk l p) _ b second) q)
 
 module _ (l : Layout) (p : Partitions) (r : Acceptance) (e : acceptance r ≡ acceptedStamps l p (answer (basis l p))) where
   pub stamps-refused : {A : Type 0} (k : ℕ) (a : Answer A) → r ≡ Refused k → refused k ≡ unless 1 (layoutOk l) (unless 2 (partitionsOk l p) a)
@@ -79,10 +80,10 @@ module _ (l : Layout) (p : Partitions) (g : Segments) (r : Acceptance) (e : acce
     guarded = rw h at (sym e)
 
     third : unless 3 (segmentsOk l p g) (answer (basis l p)) ≡ answer b
-    third = answered-rest 2 (partitionsOk l p) _ b (answered-rest 1 (layoutOk l) _ b guarded)
+    third = unless-rest 2 (partitionsOk l p) _ b (unless-rest 1 (layoutOk l) _ b guarded)
 
     segments-good : segmentsOk l p g ≡ true
-    segments-good = answered-test 3 (segmentsOk l p g) _ b third
+    segments-good = unless-test 3 (segmentsOk l p g) _ b third
 
     first-two : unless 1 (layoutOk l) (unless 2 (partitionsOk l p) (answer (basis l p))) ≡ answer b
     unfolding unless

@@ -21,6 +21,7 @@ use Rattle.rules.specs.Segments.{Segments, segments, segmentsIn, countOf, timeA
 use Rattle.rules.specs.Time.{segmentOf, segmentAt, stoppedAt}
 use Rattle.time.specs.Row.{rowOf}
 use Rattle.time.specs.Line.{Forward, Back}
+use Rattle.time.proofs.SearchLaws.{row-some}
 use Rattle.time.specs.Within.{timeFound, timeWithin, countOn, countFound, countWithin, RowIn, TimeRow, Usable}
 
 row-zero : (row : ℕ) → row ≡ 0 → rowOf row ≡ none
@@ -28,10 +29,8 @@ unfolding rowOf
 row-zero zero e = refl
 row-zero (suc i) e = absurd (omega arith)
 
-row-some : (row : ℕ) → (row ≡ 0 → ⊥) → rowOf row ≡ some (row - 1)
-unfolding rowOf
-row-some zero h = absurd (h refl)
-row-some (suc i) h = let e : suc i - 1 ≡ i = omega arith in rw e
+nonzero : (row : ℕ) → (row ≡ 0 → ⊥) → 0 < row
+nonzero row h = omega (arith, h)
 
 module _ (unit total : ℕ) (counts : List ℕ) (times : List ℤ) (rates : List ℕ) (u : Usable unit total (segments counts times rates)) where
   abbrev g : Segments
@@ -49,7 +48,7 @@ module _ (unit total : ℕ) (counts : List ℕ) (times : List ℤ) (rates : List
     module _ (some-row : row ≡ 0 → ⊥) where
       found : segmentOf g e ≡ some (row - 1)
       unfolding segmentOf
-      found = sym r ∙ row-some row some-row
+      found = sym r ∙ row-some row (nonzero row some-row)
 
       in-list : row - 1 < segmentsIn g
       unfolding segmentOf
@@ -89,7 +88,7 @@ module _ (unit total : ℕ) (counts : List ℕ) (times : List ℤ) (rates : List
           early = and-first (leZ earliestTime t) (leZ t latestTime) both;
           late = and-second (leZ earliestTime t) (leZ t latestTime) both;
           some-row = omega (arith, some-row);
-          found = at-first ∙ row-some row some-row;
+          found = at-first ∙ row-some row (nonzero row some-row);
         }
 
   module _ (t : ℤ) (row : ℕ) (w : TimeRow g t row) where

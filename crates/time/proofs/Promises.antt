@@ -21,19 +21,9 @@ use Rattle.rules.specs.Segments.{Segments, segmentsIn, countOf, timeAt, rateOf,
 use Rattle.rules.specs.Facts.{LayoutFacts, SegmentsFacts}
 use Rattle.rules.specs.Time.{accepted, segmentOf, segmentAt, timeIn, timeOf, countIn, countAt, lineCount, stoppedAt}
 use Rattle.rules.proofs.Accepted.{layout-facts, segments-facts}
+use Rattle.rules.proofs.Answers.{unless-test, unless-rest}
 use Rattle.time.specs.Promises.{FirstAtOrAfter, TimeIsNearest, LastAtOrBefore, CountIsNearest, TickLasts, TimeInRange, TwelveNotThirteen}
 use Rattle.time.proofs.RowLaws.{unit-low, reached, count-below, row-in, time-row-in}
-
--- an answer passed every rung of its ladder
-unless-test : {A : Type 0} (n : ℕ) (b : Bool) (a : Answer A) (x : A) → unless n b a ≡ answer x → b ≡ true
-unfolding unless
-unless-test n true a x e = refl
-unless-test n false a x e = let z : _≡_ {A = ℕ} 0 1 = cc in absurd (omega arith)
-
-unless-rest : {A : Type 0} (n : ℕ) (b : Bool) (a : Answer A) (x : A) → unless n b a ≡ answer x → a ≡ answer x
-unfolding unless
-unless-rest n true a x e = e
-unless-rest n false a x e = let z : _≡_ {A = ℕ} 0 1 = cc in absurd (omega arith)
 
 record Passed (A : Type 0) (l : Layout) (p : Partitions) (g : Segments) (a : Answer A) (x : A) : Type 0 where
   layout : LayoutFacts l

@@ -17,7 +17,7 @@ use Rattle.base.specs.Scans.{lastBelow}
 use Rattle.base.proofs.Scans.{last-start, last-here, last-down}
 use Rattle.time.specs.Row.{rowOf}
 
-row-some : (row : ℕ) → 0 < row → rowOf row ≡ some (row - 1)
+pub row-some : (row : ℕ) → 0 < row → rowOf row ≡ some (row - 1)
 unfolding rowOf
 row-some zero h = absurd (omega arith)
 row-some (suc i) h = let e : suc i - 1 ≡ i = omega arith in rw e

@@ -3,23 +3,24 @@ use Prim.Native.Nat.{ℕ}
 use mathlib.Core.Path.{_≡_, refl, sym, _∙_}
 use mathlib.Core.Bool.{Bool, true, false}
 use mathlib.Core.List.{List}
+use Rattle.base.specs.Scans.{among}
 use Rattle.rules.specs.Answer.{Answer, answer, refused, unless, andThen}
-use Rattle.versions.specs.Versions.{oneOf, Agree}
+use Rattle.versions.specs.Versions.{Agree}
 
 module _ {A : Type 0} {numbers : List ℕ} where
   pub agree-same : {a b : Answer A} → a ≡ b → Agree numbers a b
   agree-same {a} {b} p = record { same = λ x e. sym p ∙ e; refuses = λ x k n o. clash n o }
     where
-      clash : {x : A} {k : ℕ} → b ≡ answer x → a ≡ refused k → oneOf numbers k ≡ true
+      clash : {x : A} {k : ℕ} → b ≡ answer x → a ≡ refused k → among k numbers ≡ true
       clash n o = cc
 
-  pub agree-refused : {a b : Answer A} (k : ℕ) → a ≡ refused k → oneOf numbers k ≡ true → Agree numbers a b
+  pub agree-refused : {a b : Answer A} (k : ℕ) → a ≡ refused k → among k numbers ≡ true → Agree numbers a b
   agree-refused {a} {b} k r m = record { same = λ x e. clash e; refuses = λ x j n o. number o }
     where
       clash : {x : A} → a ≡ answer x → b ≡ answer x
       clash e = cc
 
-      number : {j : ℕ} → a ≡ refused j → oneOf numbers j ≡ true
+      number : {j : ℕ} → a ≡ refused j → among j numbers ≡ true
       number o = cc
 
   pub agree-unless : {a b : Answer A} (k : ℕ) (t : Bool) → Agree numbers a b → Agree numbers (unless k t a) (unless k t b)

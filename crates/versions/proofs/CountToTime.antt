@@ -5,6 +5,7 @@ use mathlib.Core.Path.{_≡_, refl, sym}
 use mathlib.Core.Option.{Option, none, some}
 use lib.Dec.{leb}
 use borrow.Author.Tests.{leb-true, le-leb, lt-leb}
+use Rattle.base.specs.Scans.{among}
 use Rattle.base.proofs.Tests.{by-test}
 use Rattle.base.proofs.Scans.{last-found}
 use Rattle.rules.specs.declared.Layout.{Layout}
@@ -12,7 +13,7 @@ use Rattle.rules.specs.Answer.{unless}
 use Rattle.rules.specs.Partitions.{Partitions, totalOf}
 use Rattle.rules.specs.Segments.{Segments, segmentsIn, countOf, lineAt}
 use Rattle.rules.specs.Time.{segmentOf, timeIn}
-use Rattle.versions.specs.Versions.{Agree, oneOf, countRefusals}
+use Rattle.versions.specs.Versions.{Agree, countRefusals}
 use Rattle.versions.proofs.Agreement.{agree-same, agree-refused}
 use Rattle.versions.proofs.Lists.{last-more}
 use Rattle.versions.proofs.Layouts.{OneLayout, unit-same}
@@ -38,7 +39,7 @@ module _ (l k : Layout) (p q : Partitions) (g h : Segments) (one : OneLayout l k
 
   pub time-agrees : (e : ℕ)
       → Agree countRefusals (unless 12 (leb e (totalOf p)) (timeIn l g e (segmentOf g e))) (unless 12 (leb e (totalOf q)) (timeIn k h e (segmentOf h e)))
-  unfolding unless oneOf
+  unfolding unless among
   time-agrees e =
       by-test (leb e (totalOf p))
       (λ t. let b : e ≤ totalOf p = leb-true _ _ t in

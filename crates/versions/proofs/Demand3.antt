@@ -8,6 +8,7 @@ use lib.IntN.{ℤ}
 use lib.ListN.{length, drop}
 use lib.Seq.{take-append-seam}
 use borrow.Author.Tests.{leb-true, le-leb}
+use Rattle.base.specs.Scans.{among}
 use Rattle.base.proofs.Tests.{by-test}
 use Rattle.rules.specs.Answer.{Answer, answer, refused, unless, andThen}
 use Rattle.rules.specs.Layout.{layoutOk}
@@ -15,7 +16,7 @@ use Rattle.rules.specs.Partitions.{partitionsOk, endOf, totalOf}
 use Rattle.rules.specs.Stamp.{readStamp, slashIn}
 use Rattle.rules.specs.Print.{fitting, stampPrint, printStamp, lengthPrinted, bufferAfter}
 use Rattle.rules.specs.Time.{accepted, timeOf, countAt}
-use Rattle.versions.specs.Versions.{Table, Accepted, lastIn, Hypothesis, Says, oneOf, Agree, stampRefusals, countRefusals, timeRefusals}
+use Rattle.versions.specs.Versions.{Table, Accepted, lastIn, Hypothesis, Says, Agree, stampRefusals, countRefusals, timeRefusals}
 use Rattle.versions.specs.Versions.{readBy, printBy, timeBy, countBy, Printed, shown, printed, Exception, Apart, olderPrint, newerPrint, Demand3, NeverMisleads}
 use Rattle.versions.proofs.Agreement.{agree-same, agree-refused, agree-unless}
 use Rattle.versions.proofs.Layouts.{OneLayout}
@@ -82,7 +83,7 @@ module _ (older newer : Table) (was : Accepted older) (is : Accepted newer) (say
       (ap (fitting room) (stamp-same _ _ _ _ one rows e b (λ t d m. outside (omega arith))))
 
   prints-agree : (e : ℕ) (b c : List ℕ) → length b ≡ length c → (Exception older newer e → ⊥) → Agree countRefusals (printed older e b) (printed newer e c)
-  unfolding only-print oneOf unless andThen
+  unfolding only-print among unless andThen
   prints-agree e b c same outside =
       by-test (leb e (totalOf (older .partitions)))
       (λ y. agree-same (rw (shown-print _ b, shown-print _ c, same, print-same e (length c) (leb-true _ _ y) outside)))

@@ -8,13 +8,14 @@ use mathlib.Core.Option.{Option, none, some}
 use mathlib.Core.Logic.{⊎-elim}
 use lib.Dec.{leb}
 use borrow.Author.Tests.{leb-true, le-leb}
+use Rattle.base.specs.Scans.{among}
 use Rattle.base.proofs.Tests.{by-test, and-both, and-first, and-second}
 use Rattle.base.proofs.Scans.{First, first-or, first-is, first-none}
 use Rattle.rules.specs.declared.Layout.{Layout}
 use Rattle.rules.specs.Answer.{refused, unless}
 use Rattle.rules.specs.Partitions.{Partitions, partitionsIn, startOf, endOf}
 use Rattle.rules.specs.Stamp.{holds, encodedIn, encodeNamed, encodeFound, encodeFirst, stampAt}
-use Rattle.versions.specs.Versions.{Agree, oneOf, stampRefusals}
+use Rattle.versions.specs.Versions.{Agree, stampRefusals}
 use Rattle.versions.proofs.Agreement.{agree-same, agree-refused, agree-unless, agree-then}
 use Rattle.versions.proofs.Layouts.{OneLayout, fields-same}
 use Rattle.versions.proofs.Partitions.{KeptPartitions, end-up, before-same}
@@ -44,7 +45,7 @@ module _ (p q : Partitions) (kept : KeptPartitions p q) (c : ℕ) where
       rw (y, z, le-leb 1 n low, le-leb n (partitionsIn q) (omega arith), holds-up (n - 1) b z, encoded-same (n - 1) b)
 
   pub named-agrees : (n : ℕ) → Agree stampRefusals (encodeNamed p n c) (encodeNamed q n c)
-  unfolding oneOf
+  unfolding among
   named-agrees n =
       by-test (leb 1 n && leb n (partitionsIn p))
       (λ y. by-test (holds p c (n - 1)) (λ z. agree-same (named-same n y z)) (λ f. agree-refused 11 (outside y f) refl))
@@ -66,7 +67,7 @@ module _ (p q : Partitions) (kept : KeptPartitions p q) (c : ℕ) where
       }
 
   pub first-agrees : Agree stampRefusals (encodeFirst p c) (encodeFirst q c)
-  unfolding encodeFirst encodeFound oneOf
+  unfolding encodeFirst encodeFound among
   first-agrees =
       ⊎-elim
       (λ w. let found = first-is (holds q c) (partitionsIn q) (w .0) (first-kept (w .0) (w .1)) in

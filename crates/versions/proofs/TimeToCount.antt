@@ -10,6 +10,7 @@ use lib.Dec.{leb}
 use lib.IntN.{ℤ}
 use lib.Signed.{leZ, ltZ}
 use borrow.Author.Tests.{ltb-true, ltb-false, leb-true, le-leb, lt-leb, lt-ltb}
+use Rattle.base.specs.Scans.{among}
 use Rattle.base.specs.Rounding.{roundUp}
 use Rattle.base.specs.Signed.{elapsed}
 use Rattle.base.proofs.Rounding.{at-most-up, down-at-least}
@@ -20,7 +21,7 @@ use Rattle.rules.specs.Answer.{refused, unless}
 use Rattle.rules.specs.Partitions.{Partitions, totalOf}
 use Rattle.rules.specs.Segments.{Segments, segmentsIn, countOf, timeAt, rateOf, unitOf, hasNext, lineAt}
 use Rattle.rules.specs.Time.{segmentAt, lineCount, stoppedAt, countIn}
-use Rattle.versions.specs.Versions.{Agree, oneOf, timeRefusals}
+use Rattle.versions.specs.Versions.{Agree, timeRefusals}
 use Rattle.versions.proofs.Agreement.{agree-same, agree-refused}
 use Rattle.versions.proofs.Lists.{last-more}
 use Rattle.versions.proofs.Signed.{after-later, not-later, later-elapsed}
@@ -103,7 +104,7 @@ module _
         stop-free h i (lineCount k h i t) (λ b. omega (arith, kept .further (i + 1) (omega arith) b)) ∙ same ∙ sym (free-last i e)
 
     agree-at : (i : ℕ) → stoppedAt h i (lineCount k h i t) ≡ stoppedAt g i (lineCount l g i t) → Agree timeRefusals (countIn l p g t (some i)) (countIn k q h t (some i))
-    unfolding countIn unless oneOf
+    unfolding countIn unless among
     agree-at i e =
         by-test (leb (stoppedAt g i (lineCount l g i t)) (totalOf p))
         (λ y. let b : stoppedAt g i (lineCount l g i t) ≤ totalOf p = leb-true _ _ y in
@@ -119,7 +120,7 @@ module _
     refused-last i e f = rw (free-last i e, f)
 
     agree-found : (i : ℕ) → Last (begun g t) (segmentsIn g) i → Agree timeRefusals (countIn l p g t (some i)) (countIn k q h t (segmentAt h t))
-    unfolding oneOf
+    unfolding among
     agree-found i w =
         by-test (hasNext g i)
         (λ y. let b : i + 1 < segmentsIn g = ltb-true _ _ y in

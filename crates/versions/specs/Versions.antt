@@ -2,12 +2,12 @@
 -- `NeverMisleads`, at the end, is the whole of it. proofs/Demand3.antt proves it; specs/Needed.antt says that nothing asked, nor the exception, can be left out.
 use Prim.Native.Nat.{ℕ, _+_, _-_, _≤_, _<_}
 use mathlib.Core.Path.{_≡_}
-use mathlib.Core.Bool.{Bool, true, false, _||_}
+use mathlib.Core.Bool.{true, false}
 use mathlib.Core.List.{List, [], _∷_, _++_}
-use lib.Dec.{eqb, ltb}
+use lib.Dec.{ltb}
 use lib.IntN.{ℤ}
 use lib.ListN.{length, take, drop}
-use Rattle.base.specs.Scans.{all}
+use Rattle.base.specs.Scans.{all, among}
 use Rattle.rules.specs.declared.Layout.{Layout}
 use Rattle.rules.specs.Answer.{Answer, answer, refused, Refusal, andThen}
 use Rattle.rules.specs.Layout.{layoutOk, moduliOf, offsetsOf}
@@ -65,14 +65,10 @@ module _ (older newer : Table) where
   -- "It nowhere steps back."
   Says no-step-back = stepsBack (newer .layout) (newer .segments) ≡ false
 
-unfoldable pub oneOf : List ℕ → Refusal → Bool
-oneOf [] k = false
-oneOf (n ∷ ns) k = eqb n k || oneOf ns k
-
 -- "Where the older answers, the newer gives the same answer. Where only the newer answers, the older refuses" with one of these numbers.
 pub record Agree {A : Type 0} (numbers : List ℕ) (older newer : Answer A) : Type 0 where
   pub same : (a : A) → older ≡ answer a → newer ≡ answer a
-  pub refuses : (a : A) (k : Refusal) → newer ≡ answer a → older ≡ refused k → oneOf numbers k ≡ true
+  pub refuses : (a : A) (k : Refusal) → newer ≡ answer a → older ≡ refused k → among k numbers ≡ true
 
 -- "the older refuses: a stamp with 10 or 11, a count to print or to turn into time with 12, a time with 14"
 abbrev pub stampRefusals : List ℕ
