@@ -169,7 +169,11 @@ fn put_pair(out: &mut [u8], at: usize, byte: u8) -> usize
 
 fn nibble(value: u8) -> u8 {
     let low = value % 16;
-    if low < 10 { b'0' + low } else { b'a' + (low - 10) }
+    if low < 10 {
+        b'0' + low
+    } else {
+        b'a' + (low - 10)
+    }
 }
 
 fn put(out: &mut [u8], at: usize, text: &[u8]) -> usize
