@@ -7,15 +7,15 @@ use rules::PrintAnswer;
 use rules::StepsBackAnswer;
 use rules::TimeAnswer;
 
-const LINE_END: u8 = 10;
+const LINE_END: u8 = b'\n';
 
-const BLANK: u8 = 32;
+const BLANK: u8 = b' ';
 
-const NO_BYTES: u8 = 46;
+const NO_BYTES: u8 = b'.';
 // The ordinal of the time 0.
-const ZERO: u64 = 9223372036854775808;
+const ZERO: u64 = 0x8000_0000_0000_0000;
 // One pattern stands for every NaN.
-const NAN: u64 = 9221120237041090560;
+const NAN: u64 = 0x7ff8_0000_0000_0000;
 
 pub fn put_bad(out: &mut [u8], at: usize) -> usize
     ensures { λ r. ⌜ Put at (now (out .entry)) r ⌝ }
@@ -169,7 +169,11 @@ fn put_pair(out: &mut [u8], at: usize, byte: u8) -> usize
 
 fn nibble(value: u8) -> u8 {
     let low = value % 16;
-    if low < 10 { 48 + low } else { 87 + low }
+    if low < 10 {
+        b'0' + low
+    } else {
+        b'a' + (low - 10)
+    }
 }
 
 fn put(out: &mut [u8], at: usize, text: &[u8]) -> usize

@@ -6,8 +6,11 @@ use rules::Layout;
 use rules::PrintAnswer;
 use script::words;
 
-// The most bytes of a text or a message.
+// The most bytes of a text or a message to read.
 const MOST_BYTES: usize = 2000;
+
+// The most bytes of a buffer to print into.
+const MOST_LENT: usize = 256;
 
 enum Kind {
     ReadText,
@@ -151,7 +154,7 @@ fn read(
 ) -> usize
     ensures { λ r. ⌜ Put place (now (out .entry)) r ⌝ }
 {
-    let mut bytes = [0u8; 2000];
+    let mut bytes = [0u8; MOST_BYTES];
     let length = words::hex_bytes(line, at, &mut bytes);
     if MOST_BYTES < length {
         return answers::put_bad(out, place);
@@ -185,12 +188,12 @@ fn print_line(
 {
     let number = words::decimal(line, at);
     let fill = words::decimal_up_to(line, number.next, 255);
-    let length = words::decimal_up_to(line, fill.next, 256);
+    let length = words::decimal_up_to(line, fill.next, MOST_LENT as u64);
     if !words::ends(line, length.next) {
         return answers::put_bad(out, place);
     }
     let size = length.value as usize;
-    let mut lent = [fill.value as u8; 256];
+    let mut lent = [fill.value as u8; MOST_LENT];
     print_lent(
         printed,
         layout,

@@ -5,11 +5,13 @@ use libc::STDIN_FILENO;
 
 pub(crate) const LONGEST_LINE: usize = 8192;
 
-const LINE_END: u8 = 10;
+pub(crate) const CHUNK: usize = 65536;
 
-pub(crate) type Chunk = [u8; 65536];
+const LINE_END: u8 = b'\n';
+
+pub(crate) type Chunk = [u8; CHUNK];
 // Room for the longest line and a byte that tells a longer one.
-pub(crate) type LineBuffer = [u8; 8193];
+pub(crate) type LineBuffer = [u8; LONGEST_LINE + 1];
 
 // The chunk's bytes from `at` to `have` are unread. The line buffer keeps the first `kept` bytes of the line under way, which
 // may have ended. While it is open there may be more.

@@ -2,6 +2,7 @@
 // The programs that run one are this and nothing more.
 mod input;
 
+use input::CHUNK;
 use input::Input;
 use input::LONGEST_LINE;
 use input::LineBuffer;
@@ -12,24 +13,29 @@ use script::entries::Change;
 use script::entries::ENDS;
 use script::entries::LayoutNumbers;
 use script::entries::Lists;
+use script::entries::MOST_ENTRIES;
+use script::entries::MOST_NUMBERS;
 use script::entries::RATES;
 use script::entries::STARTS;
 use script::entries::Sizes;
 use script::entries::TimeList;
 use script::words;
 
-type Output = [u8; 65536];
-// The output is written once less room than for the longest answer is left.
-const NEARLY_FULL: usize = 64000;
+const OUTPUT: usize = 65536;
+
+// An answer has at most 256 bytes in hexadecimal, a word and a number.
+const LONGEST_ANSWER: usize = 600;
+
+type Output = [u8; OUTPUT];
 
 pub fn run() {
     let mut layout = [0u64; 22];
     let mut sizes = [0usize; 5];
-    let mut lists = [0u64; 40004];
-    let mut times = [0i64; 10001];
-    let mut chunk = [0u8; 65536];
-    let mut line = [0u8; 8193];
-    let mut out = [0u8; 65536];
+    let mut lists = [0u64; MOST_NUMBERS];
+    let mut times = [0i64; MOST_ENTRIES];
+    let mut chunk = [0u8; CHUNK];
+    let mut line = [0u8; LONGEST_LINE + 1];
+    let mut out = [0u8; OUTPUT];
     let mut place = 0;
     let mut input = input::start();
     let mut turns = u64::MAX;
@@ -51,9 +57,9 @@ pub fn run() {
     written(input, &out, place);
 }
 
-// Writes the output before more input is read, and where it is nearly full; answers how much of it is left.
+// Writes the output before more input is read, and where it may have no room for an answer; answers the place after what is left.
 fn written(input: Input, out: &Output, place: usize) -> usize {
-    if place < NEARLY_FULL {
+    if place < OUTPUT - LONGEST_ANSWER {
         if input.at < input.have {
             return place;
         }

@@ -1,19 +1,25 @@
 // The tables: the layout as the 22 numbers of its line, and five lists, each with how many entries it holds.
 ghost use Prim.Native.Nat.{_<_, _≤_};
+ghost use mathlib.Core.Path.{_≡_};
+ghost use lib.ListN.{length, getD};
 ghost use Rattle.script.specs.Changes.{Keeps};
 use crate::words;
 use rules::Layout;
 
+// The most entries of a list.
+pub const MOST_ENTRIES: usize = 10001;
+
+// Those of the four lists of unsigned numbers.
+pub const MOST_NUMBERS: usize = 4 * MOST_ENTRIES;
+
 // The numbers of a layout's line.
 pub type LayoutNumbers = [u64; 22];
 // Starts, ends, counts and rates, one list behind the other.
-pub type Lists = [u64; 40004];
+pub type Lists = [u64; MOST_NUMBERS];
 
-pub type TimeList = [i64; 10001];
+pub type TimeList = [i64; MOST_ENTRIES];
 // How many entries each list holds.
 pub type Sizes = [usize; 5];
-
-const MOST_ENTRIES: usize = 10001;
 
 // The lists' numbers.
 pub const STARTS: usize = 0;
@@ -126,7 +132,7 @@ fn add_time(line: &[u8], at: usize, sizes: &mut Sizes, times: &mut TimeList) -> 
         return Change::Bad;
     }
     let size = sizes[TIMES];
-    if MOST_ENTRIES <= size {
+    if times.len() <= size {
         return Change::Bad;
     }
     let value = time.value;
@@ -174,7 +180,9 @@ fn set_layout(line: &[u8], at: usize, layout: &mut LayoutNumbers) -> Change
 }
 
 // The layout that the line's numbers say.
-pub fn layout_of(numbers: &LayoutNumbers) -> Layout {
+pub fn layout_of(numbers: &LayoutNumbers) -> Layout
+    ensures { λ r. ⌜ r .n ≡ getD (now (numbers .entry)) 0 0 ⌝ }
+{
     Layout {
         n: numbers[0] as usize,
         moduli: ten(numbers, 2),
@@ -202,6 +210,7 @@ fn low_byte(number: u64) -> u8 {
 // A list's entries.
 pub fn held<'a, 'b>(lists: &'a [u64], list: usize, sizes: &'b Sizes) -> &'a [u64]
     requires { ⌜ list < 4 ⌝ }
+    ensures { λ r. ⌜ length (now r) ≤ length (now (lists .entry)) ⌝ }
 {
     let from = list * MOST_ENTRIES;
     let size = sizes[list];
@@ -214,7 +223,9 @@ pub fn held<'a, 'b>(lists: &'a [u64], list: usize, sizes: &'b Sizes) -> &'a [u64
     &lists[from..from + size]
 }
 
-pub fn held_times<'a, 'b>(times: &'a [i64], sizes: &'b Sizes) -> &'a [i64] {
+pub fn held_times<'a, 'b>(times: &'a [i64], sizes: &'b Sizes) -> &'a [i64]
+    ensures { λ r. ⌜ length (now r) ≤ length (now (times .entry)) ⌝ }
+{
     let size = sizes[TIMES];
     if times.len() < size {
         return times;

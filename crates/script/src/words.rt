@@ -2,15 +2,21 @@
 // any place, and where a word is not what is asked for, the place after it is NOWHERE, after which no word is good.
 ghost use mathlib.Core.Path.{_≡_};
 ghost use mathlib.Core.Bool.{true};
-ghost use Prim.Native.Nat.{_≤_};
+ghost use Prim.Native.Nat.{_+_, _≤_};
 ghost use lib.Dec.{eqb};
 ghost use lib.ListN.{length, take};
 ghost use Rattle.script.specs.Lines.{passedOver};
 ghost use Rattle.script.specs.Places.{nowhere};
 
-pub const NOWHERE: usize = 18446744073709551615;
+pub const NOWHERE: usize = usize::MAX;
 
-const ZERO_TIME: u64 = 9223372036854775808;
+// The ordinal of the time 0.
+const ZERO_TIME: u64 = 0x8000_0000_0000_0000;
+
+// A double's sign, and the bits of infinity.
+const SIGN: u64 = 0x8000_0000_0000_0000;
+
+const INFINITY: u64 = 0x7ff0_0000_0000_0000;
 
 pub struct Number {
     pub value: u64,
@@ -34,14 +40,14 @@ pub fn passed_over(line: &[u8]) -> bool
     if line.len() == 0 {
         return true;
     }
-    line[0] == 35
+    line[0] == b'#'
 }
 
 // The place after the line's first word.
 pub fn first_end(line: &[u8]) -> usize
     ensures { λ r. ⌜ r ≤ length (now (line .entry)) ⌝ }
 {
-    bytes::scan::find(line, 0, line.len(), 32)
+    bytes::scan::find(line, 0, line.len(), b' ')
 }
 
 // The line's first word, which ends at `at`, is `name`.
@@ -100,7 +106,7 @@ pub fn time(line: &[u8], at: usize) -> SignedNumber
 {
     let from = after_blank(line, at);
     if from < line.len() {
-        if line[from] == 45 {
+        if line[from] == b'-' {
             return before_zero(digits(line, from + 1));
         }
     }
@@ -152,7 +158,7 @@ pub fn double_bits(line: &[u8], at: usize) -> Double
 
 // Every pattern above that of infinity, the sign aside, means NaN.
 fn from_bits(pattern: u64) -> f64 {
-    if 9218868437227405312 < pattern % 9223372036854775808 {
+    if INFINITY < pattern % SIGN {
         return 0.0 / 0.0;
     }
     f64::from_bits(pattern)
@@ -177,42 +183,47 @@ fn bits(line: &[u8], at: usize) -> Number
         if 15 < d {
             return nothing();
         }
-        value = value % 1152921504606846976 * 16 + d;
+        value = value % 0x1000_0000_0000_0000 * 16 + d;
         i += 1;
     }
     Number { value, next: end }
 }
 
-// How many bytes the line's last word spells, NOWHERE where it spells none; they are put at the front of `out`.
-// No bytes at all is `.`.
-pub fn hex_bytes(line: &[u8], at: usize, out: &mut [u8]) -> usize {
+// How many bytes the line's last word spells, one more than `out` holds where it spells none or too many; they are put at the
+// front of `out`. No bytes at all is `.`.
+pub fn hex_bytes(line: &[u8], at: usize, out: &mut [u8]) -> usize
+    ensures { λ r. ⌜ r ≤ length (now (out .entry)) + 1 ⌝ }
+{
     let from = after_blank(line, at);
     if line.len() <= from {
-        return NOWHERE;
+        return out.len() + 1;
     }
-    if line[from] == 46 {
-        return none_to_end(line, from + 1);
-    }
-    pairs(&line[from..], out)
-}
-
-fn none_to_end(line: &[u8], at: usize) -> usize {
-    if at == line.len() {
+    let word = &line[from..];
+    if is_dot(word) {
         return 0;
     }
-    NOWHERE
+    pairs(word, out)
+}
+
+fn is_dot(word: &[u8]) -> bool {
+    if word.len() != 1 {
+        return false;
+    }
+    word[0] == b'.'
 }
 
 // Two hexadecimal digits for each byte.
-fn pairs(word: &[u8], out: &mut [u8]) -> usize {
+fn pairs(word: &[u8], out: &mut [u8]) -> usize
+    ensures { λ r. ⌜ r ≤ length (now (out .entry)) + 1 ⌝ }
+{
     let mut i = 0;
     while 2 * i < word.len() {
         let byte = pair(word, i);
         if 255 < byte {
-            return NOWHERE;
+            return out.len() + 1;
         }
         if out.len() <= i {
-            return NOWHERE;
+            return out.len() + 1;
         }
         out[i] = byte as u8;
         i += 1;
@@ -246,7 +257,7 @@ fn after_blank(line: &[u8], at: usize) -> usize
     ensures { λ r. ⌜ at ≤ r ⌝ }
 {
     if at < line.len() {
-        if line[at] == 32 {
+        if line[at] == b' ' {
             return at + 1;
         }
     }
@@ -264,7 +275,7 @@ fn digits(line: &[u8], from: usize) -> Number
         if 9 < d {
             return spelled(from, i, value);
         }
-        if (18446744073709551615 - d) / 10 < value {
+        if (u64::MAX - d) / 10 < value {
             return nothing();
         }
         value = value * 10 + d;
@@ -287,14 +298,14 @@ fn spelled(from: usize, next: usize, value: u64) -> Number
 fn digit(byte: u8) -> u64
     ensures { λ r. ⌜ r ≤ 16 ⌝ }
 {
-    if 48 <= byte {
-        if byte <= 57 {
-            return (byte - 48) as u64;
+    if b'0' <= byte {
+        if byte <= b'9' {
+            return (byte - b'0') as u64;
         }
     }
-    if 97 <= byte {
-        if byte <= 102 {
-            return (byte - 87) as u64;
+    if b'a' <= byte {
+        if byte <= b'f' {
+            return (byte - b'a' + 10) as u64;
         }
     }
     16
