@@ -8,13 +8,14 @@ use report::often;
 
 fn main() {
     let timed = 1 < os::arg_count();
-    stamps::bench(timed);
-    bench_1(timed);
-    bench_100(timed);
-    bench_10000(timed);
+    let unknown = (os::arg_count() / 4_294_967_296) as u64;
+    stamps::bench(timed, unknown);
+    bench_1(timed, unknown);
+    bench_100(timed, unknown);
+    bench_10000(timed, unknown);
 }
 
-fn bench_1(timed: bool) {
+fn bench_1(timed: bool, unknown: u64) {
     let mut counts = [0u64; 1];
     let mut times = [0i64; 1];
     let mut rates = [0u64; 1];
@@ -24,6 +25,7 @@ fn bench_1(timed: bool) {
         &mut counts,
         &mut times,
         &mut rates,
+        unknown,
         1,
         asked,
         b"time-of-1",
@@ -31,7 +33,7 @@ fn bench_1(timed: bool) {
     );
 }
 
-fn bench_100(timed: bool) {
+fn bench_100(timed: bool, unknown: u64) {
     let mut counts = [0u64; 100];
     let mut times = [0i64; 100];
     let mut rates = [0u64; 100];
@@ -41,6 +43,7 @@ fn bench_100(timed: bool) {
         &mut counts,
         &mut times,
         &mut rates,
+        unknown,
         100,
         asked,
         b"time-of-100",
@@ -48,7 +51,7 @@ fn bench_100(timed: bool) {
     );
 }
 
-fn bench_10000(timed: bool) {
+fn bench_10000(timed: bool, unknown: u64) {
     let mut counts = [0u64; 10000];
     let mut times = [0i64; 10000];
     let mut rates = [0u64; 10000];
@@ -58,10 +61,11 @@ fn bench_10000(timed: bool) {
         &mut counts,
         &mut times,
         &mut rates,
+        unknown,
         10000,
         asked,
         b"time-of-10000",
         b"count-at-10000",
     );
-    rows::bench_steps(timed, &counts, &times, &rates, asked);
+    rows::bench_steps(timed, &counts, &times, &rates, unknown, asked);
 }

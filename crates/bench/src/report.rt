@@ -6,12 +6,14 @@ use rules::Layout;
 // Moduli 65536, 60, 800, offsets 0, 0, 1: one field count is 48,000 ticks.
 pub const LAST: u64 = 3_145_727_999;
 
-pub fn layout() -> Layout {
+// `unknown` is 0. The compiler cannot know that, so it does not reckon with the layout's numbers beforehand.
+pub fn layout(unknown: u64) -> Layout {
+    let zero = unknown % 2;
     Layout {
-        n: 3,
-        moduli: [65_536, 60, 800, 0, 0, 0, 0, 0, 0, 0],
-        offsets: [0, 0, 1, 0, 0, 0, 0, 0, 0, 0],
-        delimiter: 2,
+        n: 3 + zero as usize,
+        moduli: [65_536 + zero, 60 + zero, 800 + zero, 0, 0, 0, 0, 0, 0, 0],
+        offsets: [zero, zero, 1 + zero, 0, 0, 0, 0, 0, 0, 0],
+        delimiter: 2 + zero as u8,
     }
 }
 
