@@ -1,0 +1,20 @@
+use Rattle.bench.proofs.Laws.{div-small}
+use borrow.Author.Needs.{needs}
+use Rattle.bench.proofs.rows.bench.Statement.{statement}
+use Rattle.bench.proofs.rows.bench.Tie as tie
+
+fill-requires : tie.Need-fill-requires
+fill-requires c κs = (search needs, search (div-small, needs))
+
+pub bench-spec : {M : Type 1} → statement M
+bench-spec =
+    tie.close
+    (tie.spec
+    (λ c. search needs)
+    fill-requires
+    (λ c κs. search needs)
+    (λ c κs. search needs)
+    (λ c. search needs)
+    (λ c. search needs)
+    (λ c. search needs)
+    (λ c. search needs))
