@@ -21,31 +21,6 @@ bit-length x h =
     let e : 64 - leadingZeros 64 x ≡ top .0 = omega (arith, top .1) in
     rw e (record { enough = top .2; needed = even (top .0) x (top .3); word = omega (arith, top .1) })
 
-some-digit : (d m : ℕ) → d < 2 ^ m → 0 < d → 0 < m
-some-digit d zero h pos = omega arith
-some-digit d (suc m) h pos = omega arith
-
--- a number of one word, of n digits, by d, of m
-module _ (hi lo d n m : ℕ) (none : hi ≡ 0) (ln : Length lo n) (lm : Length d m) (less : hi < d) where
-  pub short-start : n < m → Starts (hi * 2 ^ 64 + lo) lo d lo 0
-  short-start h = record {
-    whole = rw none (omega arith);
-    small = omega (arith, pow-succ' 2 n, pow-mono {i = suc n} {j = m} h, lm .needed, ln .enough);
-    most = omega arith;
-  }
-
-  pub shift-lt : n - m < 64
-  shift-lt = omega (arith, some-digit d m (lm .enough) (omega arith), ln .word)
-
-  pub word-start : m ≤ n → Starts (hi * 2 ^ 64 + lo) lo d (lo / 2 ^ (n - m) / 2) (n - m + 1)
-  word-start h =
-      let k = n - m in
-      let e : n ≡ m + k = omega arith in
-      let split : 2 ^ n ≡ 2 ^ m * 2 ^ k = ap (λ (i : ℕ). 2 ^ i) e ∙ pow-add 2 m k in
-      let above : lo / 2 ^ k < 2 ^ m = div-lt-iff-lt-mul {k = 2 ^ k} {x = lo} {y = 2 ^ m} (pow-pos k) .1 (omega (arith, split, ln .enough)) in
-      let parts : lo / 2 ^ k / 2 * 2 ^ (k + 1) + lo % 2 ^ (k + 1) ≡ lo = rw (div-div-eq-div-mul lo (2 ^ k) 2, pow-add 2 k 1) (div-add-mod' lo (2 ^ k * 2)) in
-      record { whole = rw none (omega (arith, parts)); small = omega (arith, above, lm .needed); most = omega (arith, shift-lt) }
-
 -- two words of w digits each, of which the first z digits are passed over
 module _ (w hi lo z : ℕ) (l : lo < 2 ^ w) (most : z ≤ w) where
   back : z + (w - z) ≡ w

@@ -3,7 +3,7 @@
 use mathlib.Core.Path.{_≡_, ap, _∙_}
 use mathlib.Core.Bool.{cond}
 use Prim.Native.Nat.{ℕ, suc, _+_, _-_, _*_, _/_, _%_, _^_, _≤_, _<_}
-use native.Mathlib.Nat.{lt-of-lt-of-le, le-add-right, mul-comm, mul-left-comm, add-mul, pow-succ', lt-of-mul-lt-mul-right, le-mul-of-pos-right, mod-lt, mod-eq-of-lt, mod-eq-sub-mod, one-mul, div-eq-of-lt, div-eq-of-lt-le}
+use native.Mathlib.Nat.{lt-of-lt-of-le, le-add-right, mul-comm, mul-left-comm, add-mul, pow-succ', lt-of-mul-lt-mul-right, le-mul-of-pos-right, mod-lt, mod-eq-of-lt, mod-eq-sub-mod, one-mul, div-eq-of-lt, div-eq-of-lt-le, div-add-mod'}
 use native.Mathlib.Omega.{arith}
 use borrow.Author.Tests.{leb-true, leb-false, ltb-true, ltb-false}
 use lib.Arith.{digits-lt, mod-mul}
@@ -71,3 +71,13 @@ module _ (rest w d n k q r b q₁ r₁ : ℕ) (small : rest < d) (count : n ≤ 
 
   pub double-fits : Fits w64 (q + q)
   double-fits = fits-le (le-add-right (q + q) q₁) quotient-fits
+
+pub one-word : (hi lo d q r : ℕ) → hi ≡ 0 → Divided lo d q r → Divided (hi * 2 ^ 64 + lo) d q r
+one-word hi lo d q r none by = rw none (record { whole = omega (arith, by .whole); small = by .small })
+
+pub by-word : (x d : ℕ) → 0 < d → Divided x d (x / d) (x % d)
+by-word x d pos = record { whole = div-add-mod' x d; small = mod-lt x pos }
+
+-- a rest and a digit in any base P, by d: one digit of the quotient
+pub digit-lt : (P rest a d q r : ℕ) → rest < d → a < P → Divided (rest * P + a) d q r → q < P
+digit-lt P rest a d q r less l by = below-weight d P 1 (rest * P + a) q r 0 (omega arith) (omega (arith, by .whole)) (digits-lt less l)

@@ -1,5 +1,5 @@
-// Quotients of a two-word product by one word, by shift and subtract: no divide, no remainder.
-// The divisor is at most 2^63, so that twice a rest fits a word.
+// Quotients of a two-word product by one word: by the word's own division where its numbers fit a word, else by shift and
+// subtract. The divisor is at most 2^63, so that twice a rest fits a word.
 ghost use mathlib.Core.Path.{_≡_};
 ghost use mathlib.Core.Bool.{cond};
 ghost use Prim.Native.Nat.{_+_, _*_, _/_, _%_, _^_, _≤_, _<_};
@@ -10,6 +10,7 @@ ghost use Rattle.wide.specs.Quotient.{fit};
 ghost use Rattle.wide.specs.Steps.{Divided, Length, Starts};
 use super::Quotient;
 use super::Wide;
+use super::product::BASE;
 use super::product::mul;
 
 // A whole quotient, and the rest.
@@ -65,8 +66,45 @@ fn divide(x: Wide, d: u64) -> Division
 {
     let hi = x.hi;
     let lo = x.lo;
+    if hi == 0 {
+        return by_word(lo, d);
+    }
+    if d <= BASE {
+        return by_halves(hi, lo, d);
+    }
     let from = skip_zeros(hi, lo, d);
     digits(from.rest, lo, d, from.count)
+}
+
+fn by_word(x: u64, d: u64) -> Division
+    requires { ⌜ 0 < d ⌝ }
+    ensures { λ r. ⌜ Divided x d (r .quotient) (r .rest) ⌝ }
+{
+    Division {
+        quotient: x / d,
+        rest: x % d,
+    }
+}
+
+// Two digits of the quotient in base 2^32, the upper one first.
+fn by_halves(hi: u64, lo: u64, d: u64) -> Division
+    requires { ⌜ (hi < d) × (d ≤ 2 ^ 32) ⌝ }
+    ensures { λ r. ⌜ Divided (hi * 2 ^ 64 + lo) d (r .quotient) (r .rest) ⌝ }
+{
+    let upper = half(hi, lo / BASE, d);
+    let lower = half(upper.rest, lo % BASE, d);
+    Division {
+        quotient: upper.quotient * BASE + lower.quotient,
+        rest: lower.rest,
+    }
+}
+
+// `rest` followed by one digit in base 2^32, by `d`: one such digit of the quotient.
+fn half(rest: u64, digit: u64, d: u64) -> Division
+    requires { ⌜ (rest < d) × (d ≤ 2 ^ 32) × (digit < 2 ^ 32) ⌝ }
+    ensures { λ r. ⌜ Divided (rest * 2 ^ 32 + digit) d (r .quotient) (r .rest) × (r .quotient < 2 ^ 32) ⌝ }
+{
+    by_word(rest * BASE + digit, d)
 }
 
 // Passes over the zeros in front of the quotient, by the lengths of the two numbers.
@@ -75,17 +113,6 @@ fn skip_zeros(hi: u64, lo: u64, d: u64) -> Start
     ensures { λ r. ⌜ Starts (hi * 2 ^ 64 + lo) lo d (r .rest) (r .count) ⌝ }
 {
     let m = bit_length(d);
-    if hi == 0 {
-        let n = bit_length(lo);
-        if n < m {
-            return Start { rest: lo, count: 0 };
-        }
-        let k = n - m;
-        return Start {
-            rest: lo >> k >> 1,
-            count: k + 1,
-        };
-    }
     let n = bit_length(hi) + 1;
     if m <= n {
         return Start {

@@ -6,7 +6,7 @@ ghost use Rattle.wide.specs.Wide.{value};
 use super::Wide;
 
 // 2^32: a word is two digits in this base, and a product of two digits fits a word.
-const BASE: u64 = 4294967296;
+pub(super) const BASE: u64 = 4294967296;
 
 // The upper word of `a * b`. It shares nothing with `low`: so each of the two compiles to one
 // multiplication.

@@ -1,4 +1,4 @@
-use Rattle.wide.proofs.Start.{short-start, shift-lt, word-start, words-start, words-fit}
+use Rattle.wide.proofs.Start.{words-start, words-fit}
 use borrow.Author.Needs.{needs}
 use Rattle.wide.proofs.division.skip_zeros.Statement.{statement}
 use Rattle.wide.proofs.division.skip_zeros.Tie as tie
@@ -8,12 +8,6 @@ skip-zeros-spec =
     tie.close
     (tie.spec
     (λ c κs. search needs)
-    (λ c κs. search needs)
-    (λ c. search (short-start, needs))
-    (λ c. search needs)
-    (λ c. search (shift-lt, needs))
-    (λ c. search needs)
-    (λ c. search (word-start, needs))
     (λ c κs. search needs)
     (λ c. search needs)
     (λ c. search needs)
