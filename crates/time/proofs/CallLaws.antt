@@ -19,9 +19,9 @@ use Rattle.rules.specs.Limits.{earliestTime, latestTime}
 use Rattle.rules.specs.Answer.{Answer, answer, refused, unless}
 use Rattle.rules.specs.Segments.{Segments, segments, segmentsIn, countOf, timeAt, rateOf}
 use Rattle.rules.specs.Time.{segmentOf, segmentAt, stoppedAt}
-use Rattle.time.specs.Row.{rowOf}
-use Rattle.time.specs.Line.{Forward, Back}
-use Rattle.time.proofs.SearchLaws.{row-some}
+use Rattle.segment_search.specs.Row.{rowOf}
+use Rattle.segment_line.specs.Line.{Forward, Back}
+use Rattle.segment_search.proofs.Laws.{row-some}
 use Rattle.time.specs.Within.{timeFound, timeWithin, countOn, countFound, countWithin, RowIn, TimeRow, Usable}
 
 row-zero : (row : ℕ) → row ≡ 0 → rowOf row ≡ none

@@ -1,5 +1,3 @@
-pub mod SearchLaws
-pub mod LineLaws
 pub mod RowLaws
 pub mod Promises
 pub mod WithinLaws

@@ -23,7 +23,7 @@ use Rattle.rules.specs.Partitions.{Partitions, totalOf}
 use Rattle.rules.specs.Segments.{Segments, segmentsIn, countOf, timeAt, rateOf, unitOf, lineAt, segmentEnd}
 use Rattle.rules.specs.Facts.{LayoutFacts, SegmentFacts, SegmentsFacts}
 use Rattle.rules.specs.Time.{segmentOf, segmentAt}
-use Rattle.time.specs.Line.{Forward, Back}
+use Rattle.segment_line.specs.Line.{Forward, Back}
 
 -- a time that is at most k stays so where less is added
 later-down : (t : ℤ) (d e k : ℕ) → d ≤ e → leZ (later t e) (pos k) ≡ true → leZ (later t d) (pos k) ≡ true

@@ -1,4 +1,2 @@
-pub mod Row
-pub mod Line
 pub mod Promises
 pub mod Within

@@ -13,7 +13,7 @@ use Rattle.rules.specs.Limits.{earliestTime, latestTime}
 use Rattle.rules.specs.Answer.{Answer, answer, refused, unless}
 use Rattle.rules.specs.Segments.{Segments, segmentsIn, countOf, timeAt, rateOf}
 use Rattle.rules.specs.Time.{segmentOf, segmentAt, stoppedAt}
-use Rattle.time.specs.Line.{Forward, Back}
+use Rattle.segment_line.specs.Line.{Forward, Back}
 
 unfoldable pub timeFound : ℕ → Segments → ℕ → Option ℕ → Answer ℤ
 timeFound unit g e (some i) = answer (later (timeAt g i) (roundUp (rateOf g i * (e - countOf g i)) unit))

@@ -10,8 +10,6 @@ use rules::TimeAnswer;
 use tables::Acceptance;
 use tables::accept;
 
-mod line;
-mod search;
 mod within;
 
 // The time of an encoded count.

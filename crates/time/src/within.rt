@@ -12,15 +12,15 @@ ghost use Rattle.base.specs.Signed.{later, elapsed};
 ghost use Rattle.rules.specs.Answer.{timeAnswer, countAnswer, answer, unless};
 ghost use Rattle.rules.specs.Segments.{segments};
 ghost use Rattle.time.specs.Within.{timeWithin, countWithin, RowIn, TimeRow, Usable};
-ghost use Rattle.time.specs.Line.{Forward, Back};
-use super::line::ticks_on;
-use super::line::time_on;
-use super::search::row_of_count;
-use super::search::row_of_time;
+ghost use Rattle.segment_line.specs.Line.{Forward, Back};
 use layouts::limits::EARLIEST_TIME;
 use layouts::limits::LATEST_TIME;
 use rules::CountAnswer;
 use rules::TimeAnswer;
+use segment_line::ticks_on;
+use segment_line::time_on;
+use segment_search::row_of_count;
+use segment_search::row_of_time;
 
 pub fn time_within(
     unit: u64,

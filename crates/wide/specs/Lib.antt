@@ -1,3 +1,1 @@
 pub mod Wide
-pub mod Quotient
-pub mod Steps

@@ -1,4 +1,4 @@
-use Rattle.time.proofs.LineLaws.{element-elapsed}
+use Rattle.segment_line.proofs.Laws.{element-elapsed}
 use borrow.Author.Needs.{needs}
 use Rattle.time.proofs.within.ticks_at.Statement.{statement}
 use Rattle.time.proofs.within.ticks_at.Tie as tie

@@ -1,4 +1,4 @@
-use Rattle.time.proofs.LineLaws.{element-later}
+use Rattle.segment_line.proofs.Laws.{element-later}
 use borrow.Author.Needs.{needs}
 use Rattle.time.proofs.within.time_at.Statement.{statement}
 use Rattle.time.proofs.within.time_at.Tie as tie

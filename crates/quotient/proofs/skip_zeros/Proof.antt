@@ -1,0 +1,22 @@
+use Rattle.quotient.proofs.Zeros.{words-start, words-fit}
+use borrow.Author.Needs.{needs}
+use Rattle.quotient.proofs.skip_zeros.Statement.{statement}
+use Rattle.quotient.proofs.skip_zeros.Tie as tie
+
+pub skip-zeros-spec : {M : Type 1} → statement M
+skip-zeros-spec =
+    tie.close
+    (tie.spec
+    (λ c κs. search needs)
+    (λ c κs. search needs)
+    (λ c. search needs)
+    (λ c. search needs)
+    (λ c. search needs)
+    (λ c. search needs)
+    (λ c. search needs)
+    (λ c. search needs)
+    (λ c. search needs)
+    (λ c. search needs)
+    (λ c. search (words-fit, needs))
+    (λ c. search needs)
+    (λ c. search (words-start, needs)))
