@@ -5,66 +5,48 @@ mod stamps;
 
 use bench_report::often;
 
+const MOST_ROWS: usize = 10000;
+
 fn main() {
     let timed = 1 < os::arg_count();
-    let unknown = (os::arg_count() / 4_294_967_296) as u64;
-    stamps::bench(timed, unknown);
-    bench_1(timed, unknown);
-    bench_100(timed, unknown);
-    bench_10000(timed, unknown);
-}
-
-fn bench_1(timed: bool, unknown: u64) {
-    let mut counts = [0u64; 1];
-    let mut times = [0i64; 1];
-    let mut rates = [0u64; 1];
-    let asked = often(timed, 5_000_000, 100);
+    let layout = bench_report::layout((os::arg_count() / 4_294_967_296) as u64);
+    stamps::bench(timed, layout);
+    let mut counts = [0u64; MOST_ROWS];
+    let mut times = [0i64; MOST_ROWS];
+    let mut rates = [0u64; MOST_ROWS];
     rows::bench(
         timed,
+        layout,
         &mut counts,
         &mut times,
         &mut rates,
-        unknown,
         1,
-        asked,
+        often(timed, 5_000_000, 100),
         b"time-of-1",
         b"count-at-1",
     );
-}
-
-fn bench_100(timed: bool, unknown: u64) {
-    let mut counts = [0u64; 100];
-    let mut times = [0i64; 100];
-    let mut rates = [0u64; 100];
-    let asked = often(timed, 1_000_000, 100);
     rows::bench(
         timed,
+        layout,
         &mut counts,
         &mut times,
         &mut rates,
-        unknown,
         100,
-        asked,
+        often(timed, 1_000_000, 100),
         b"time-of-100",
         b"count-at-100",
     );
-}
-
-fn bench_10000(timed: bool, unknown: u64) {
-    let mut counts = [0u64; 10000];
-    let mut times = [0i64; 10000];
-    let mut rates = [0u64; 10000];
     let asked = often(timed, 10_000, 100);
     rows::bench(
         timed,
+        layout,
         &mut counts,
         &mut times,
         &mut rates,
-        unknown,
-        10000,
+        MOST_ROWS,
         asked,
         b"time-of-10000",
         b"count-at-10000",
     );
-    rows::bench_steps(timed, &counts, &times, &rates, unknown, asked);
+    rows::bench_steps(timed, layout, &counts, &times, &rates, asked);
 }

@@ -55,7 +55,8 @@ fn texts() -> Vec<u8> {
     let mut x = 1;
     for _ in 0..TEXTS {
         x = next(x);
-        let text = format!("1/{:05}:{:02}:{:03}", x % 65_536, x / 65_536 % 60, x % 800 + 1);
+        let count = scaled(x, LAST);
+        let text = format!("1/{:05}:{:02}:{:03}", count / 48_000, count / 800 % 60, count % 800 + 1);
         all.extend_from_slice(text.as_bytes());
     }
     all
@@ -109,7 +110,7 @@ fn main() {
         });
         if n == 10_000 {
             line("steps-back-10000", many(times, 100), timed, |_| {
-                steps_back(black_box(&LAYOUT), one, segments).unwrap() as u64
+                if steps_back(black_box(&LAYOUT), one, segments).unwrap() { 1 } else { 2 }
             });
         }
     }

@@ -4,7 +4,7 @@ use Rattle.bench.proofs.rows.bench.Statement.{statement}
 use Rattle.bench.proofs.rows.bench.Tie as tie
 
 fill-requires : tie.Need-fill-requires
-fill-requires c κs = (search needs, search (div-small, needs))
+fill-requires c κs = ((search needs, search (div-small, needs)), search needs)
 
 pub bench-spec : {M : Type 1} → statement M
 bench-spec =
@@ -12,6 +12,15 @@ bench-spec =
     (tie.spec
     (λ c. search needs)
     fill-requires
+    (λ c. search needs)
+    (λ c. search needs)
+    (λ c. search needs)
+    (λ c. search needs)
+    (λ c. search needs)
+    (λ c. search needs)
+    (λ c. search needs)
+    (λ c. search needs)
+    (λ c. search needs)
     (λ c κs. search needs)
     (λ c κs. search needs)
     (λ c. search needs)

@@ -1,13 +1,13 @@
-use Prim.Native.Nat.{_-_, _<_}
 use borrow.Author.Needs.{needs}
+use Prim.Native.Nat.{_-_, _<_}
 use Rattle.bench.proofs.rows.times_of.Statement.{statement}
 use Rattle.bench.proofs.rows.times_of.Tie as tie
 
 abbrev Inv-loop : tie.InvT-loop
-Inv-loop counts times rates unknown asked sum₀ x₀ k₀ sum x k = (x < 2147483648) × (sum < 1000000007)
+Inv-loop layout counts times rates asked sum₀ x₀ k₀ sum x k = (x < 2147483648) × (sum < 1000000007)
 
 abbrev μ-loop : tie.MeasureT-loop
-μ-loop counts times rates unknown asked sum₀ x₀ k₀ sum x k = asked - k
+μ-loop layout counts times rates asked sum₀ x₀ k₀ sum x k = asked - k
 
 pub times-of-spec : {M : Type 1} → statement M
 times-of-spec =

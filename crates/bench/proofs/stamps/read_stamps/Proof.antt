@@ -1,13 +1,13 @@
-use Prim.Native.Nat.{_-_, _<_}
 use borrow.Author.Needs.{needs}
+use Prim.Native.Nat.{_-_, _<_}
 use Rattle.bench.proofs.stamps.read_stamps.Statement.{statement}
 use Rattle.bench.proofs.stamps.read_stamps.Tie as tie
 
 abbrev Inv-loop : tie.InvT-loop
-Inv-loop texts times unknown sum₀ x₀ k₀ sum x k = (x < 2147483648) × (sum < 1000000007)
+Inv-loop layout texts asked sum₀ x₀ k₀ sum x k = (x < 2147483648) × (sum < 1000000007)
 
 abbrev μ-loop : tie.MeasureT-loop
-μ-loop texts times unknown sum₀ x₀ k₀ sum x k = times - k
+μ-loop layout texts asked sum₀ x₀ k₀ sum x k = asked - k
 
 pub read-stamps-spec : {M : Type 1} → statement M
 read-stamps-spec =
@@ -17,6 +17,7 @@ read-stamps-spec =
     μ-loop
     (λ c. search needs)
     (λ c κs. search needs)
+    (λ c. search needs)
     (λ c κs. search needs)
     (λ c κs. search needs)
     (λ c. search needs)

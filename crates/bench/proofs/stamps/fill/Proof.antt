@@ -1,18 +1,18 @@
+use borrow.Author.Needs.{needs}
 use Prim.Native.Nat.{_-_, _<_}
 use mathlib.Core.Path.{_≡_}
-use borrow.Author.Needs.{needs}
 use lib.ListN.{length}
-use Rattle.bench.proofs.stamps.fill_texts.Statement.{statement}
-use Rattle.bench.proofs.stamps.fill_texts.Tie as tie
+use Rattle.bench.proofs.stamps.fill.Statement.{statement}
+use Rattle.bench.proofs.stamps.fill.Tie as tie
 
 abbrev Inv-loop : tie.InvT-loop
-Inv-loop out₀ x₀ i₀ out x i = (x < 2147483648) × (length out ≡ length out₀)
+Inv-loop layout texts₀ x₀ i₀ texts x i = (x < 2147483648) × (length texts ≡ length texts₀)
 
 abbrev μ-loop : tie.MeasureT-loop
-μ-loop out₀ x₀ i₀ out x i = 256 - i
+μ-loop layout texts₀ x₀ i₀ texts x i = 256 - i
 
-pub fill-texts-spec : {M : Type 1} → statement M
-fill-texts-spec =
+pub fill-spec : {M : Type 1} → statement M
+fill-spec =
     tie.close
     (tie.spec
     Inv-loop
@@ -20,6 +20,7 @@ fill-texts-spec =
     (λ c. search needs)
     (λ c κs. search needs)
     (λ c. search needs)
+    (λ c κs. search needs)
     (λ c κs. search needs)
     (λ c. search needs)
     (λ c. search needs)
