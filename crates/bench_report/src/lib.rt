@@ -1,4 +1,6 @@
 // The numbers that questions are made of, and what is printed of them.
+ghost use mathlib.Core.Path.{_≡_};
+ghost use mathlib.Core.Bool.{cond};
 ghost use Prim.Native.Nat.{_≤_, _<_};
 use libc::STDOUT_FILENO;
 use rules::Layout;
@@ -51,7 +53,9 @@ pub fn mixed(sum: u64, answer: u64) -> u64
 }
 
 // How often a question is asked.
-pub fn often(timed: bool, many: u64, few: u64) -> u64 {
+pub fn often(timed: bool, many: u64, few: u64) -> u64
+    ensures { λ r. ⌜ r ≡ cond timed many few ⌝ }
+{
     if timed { many } else { few }
 }
 

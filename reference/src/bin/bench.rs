@@ -2,11 +2,15 @@
 //! word `time` it asks many and prints nanoseconds a call behind each checksum. The proved program `bench` does the same.
 
 use reference::{count_at, print_stamp, read_stamp, steps_back, time_of, Layout, Partitions, Segments};
-use std::hint::black_box;
 
 extern "C" {
     /// C's `clock`: microseconds of processor time. The proved program reads the same.
     fn clock() -> i64;
+}
+
+/// The same, and the compiler cannot know it: else it would divide by constants.
+fn unknown<T>(value: &T) -> &T {
+    unsafe { std::ptr::read_volatile(&value) }
 }
 
 /// "Moduli 65536, 60, 800, offsets 0, 0, 1": one field count is 48,000 ticks.
@@ -68,7 +72,7 @@ fn line(name: &str, times: u64, timed: bool, ask: impl Fn(u64) -> u64) {
     let mut x = 1;
     for _ in 0..times {
         x = next(x);
-        sum = mixed(sum, black_box(ask(x)));
+        sum = mixed(sum, ask(x));
     }
     let each = (unsafe { clock() } - start) as u64 * 1_000 / times;
     if timed {
@@ -87,11 +91,11 @@ fn main() {
     let texts = texts();
     line("read-stamp", many(5_000_000, 1_000), timed, |x| {
         let at = (x as usize % TEXTS) * 14;
-        read_stamp(black_box(&LAYOUT), partitions, &texts[at..at + 14]).unwrap()
+        read_stamp(unknown(&LAYOUT), partitions, &texts[at..at + 14]).unwrap()
     });
     line("print-stamp", many(5_000_000, 1_000), timed, |x| {
         let mut buffer = [0; 32];
-        let length = print_stamp(black_box(&LAYOUT), partitions, scaled(x, LAST + LAST), &mut buffer).unwrap();
+        let length = print_stamp(unknown(&LAYOUT), partitions, scaled(x, LAST + LAST), &mut buffer).unwrap();
         length as u64 * 256 + buffer[length - 1] as u64
     });
     for (names, n, times) in [
@@ -103,14 +107,18 @@ fn main() {
         let segments = Segments { count: &rows.count, time: &rows.time, rate: &rows.rate };
         let latest = rows.time[rows.time.len() - 1] as u64 + 20 * (LAST - rows.count[rows.count.len() - 1]);
         line(names[0], many(times, 100), timed, |x| {
-            (time_of(black_box(&LAYOUT), one, segments, scaled(x, LAST)).unwrap() as u64) ^ (1 << 63)
+            (time_of(unknown(&LAYOUT), one, segments, scaled(x, LAST)).unwrap() as u64) ^ (1 << 63)
         });
         line(names[1], many(times, 100), timed, |x| {
-            count_at(black_box(&LAYOUT), one, segments, scaled(x, latest) as i64).unwrap()
+            count_at(unknown(&LAYOUT), one, segments, scaled(x, latest) as i64).unwrap()
         });
         if n == 10_000 {
             line("steps-back-10000", many(times, 100), timed, |_| {
-                if steps_back(black_box(&LAYOUT), one, segments).unwrap() { 1 } else { 2 }
+                if steps_back(unknown(&LAYOUT), one, segments).unwrap() {
+                    1
+                } else {
+                    2
+                }
             });
         }
     }
