@@ -7,14 +7,18 @@ use bench_report::often;
 
 fn main() {
     let timed = 1 < os::arg_count();
-    let unknown = (os::arg_count() / 4_294_967_296) as u64;
-    stamps::bench(timed, unknown);
-    bench_1(timed, unknown);
-    bench_100(timed, unknown);
-    bench_10000(timed, unknown);
+    stamps::bench(timed);
+    bench_1(timed);
+    bench_100(timed);
+    bench_10000(timed);
 }
 
-fn bench_1(timed: bool, unknown: u64) {
+// 0. The compiler cannot know that, nor that it is the same for the next question.
+fn unknown() -> u64 {
+    (os::arg_count() / 4_294_967_296) as u64
+}
+
+fn bench_1(timed: bool) {
     let mut counts = [0u64; 1];
     let mut times = [0i64; 1];
     let mut rates = [0u64; 1];
@@ -24,7 +28,6 @@ fn bench_1(timed: bool, unknown: u64) {
         &mut counts,
         &mut times,
         &mut rates,
-        unknown,
         1,
         asked,
         b"time-of-1",
@@ -32,7 +35,7 @@ fn bench_1(timed: bool, unknown: u64) {
     );
 }
 
-fn bench_100(timed: bool, unknown: u64) {
+fn bench_100(timed: bool) {
     let mut counts = [0u64; 100];
     let mut times = [0i64; 100];
     let mut rates = [0u64; 100];
@@ -42,7 +45,6 @@ fn bench_100(timed: bool, unknown: u64) {
         &mut counts,
         &mut times,
         &mut rates,
-        unknown,
         100,
         asked,
         b"time-of-100",
@@ -50,7 +52,7 @@ fn bench_100(timed: bool, unknown: u64) {
     );
 }
 
-fn bench_10000(timed: bool, unknown: u64) {
+fn bench_10000(timed: bool) {
     let mut counts = [0u64; 10000];
     let mut times = [0i64; 10000];
     let mut rates = [0u64; 10000];
@@ -60,11 +62,10 @@ fn bench_10000(timed: bool, unknown: u64) {
         &mut counts,
         &mut times,
         &mut rates,
-        unknown,
         10000,
         asked,
         b"time-of-10000",
         b"count-at-10000",
     );
-    rows::bench_steps(timed, &counts, &times, &rates, unknown, asked);
+    rows::bench_steps(timed, &counts, &times, &rates, asked);
 }

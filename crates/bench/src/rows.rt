@@ -1,5 +1,6 @@
 // Count to time and time to count, under tables of 1, 100 and 10,000 segments; whether the largest steps back.
 ghost use Prim.Native.Nat.{_≤_, _<_};
+use crate::unknown;
 use bench_report::LAST;
 use bench_report::latest;
 use bench_report::layout;
@@ -17,7 +18,6 @@ pub fn bench(
     counts: &mut [u64],
     times: &mut [i64],
     rates: &mut [u64],
-    unknown: u64,
     n: u64,
     asked: u64,
     time_name: &[u8],
@@ -26,8 +26,8 @@ pub fn bench(
     requires { ⌜ (1 ≤ n) × (n < 10001) ⌝ }
 {
     fill(counts, times, rates, n, LAST / n);
-    ask_times(counts, times, rates, unknown, timed, asked, time_name);
-    ask_counts(counts, times, rates, unknown, timed, asked, count_name);
+    ask_times(counts, times, rates, timed, asked, time_name);
+    ask_counts(counts, times, rates, timed, asked, count_name);
 }
 
 // Segments as long as each other, with ticks of some 20 ns and a gap after each.
@@ -82,39 +82,23 @@ fn put_time(times: &mut [i64], i: usize, time: i64) {
     }
 }
 
-fn ask_times(
-    counts: &[u64],
-    times: &[i64],
-    rates: &[u64],
-    unknown: u64,
-    timed: bool,
-    asked: u64,
-    name: &[u8],
-) {
+fn ask_times(counts: &[u64], times: &[i64], rates: &[u64], timed: bool, asked: u64, name: &[u8]) {
     let from = libc::clock();
     line(
         name,
         asked,
-        times_of(counts, times, rates, unknown, asked),
+        times_of(counts, times, rates, asked),
         timed,
         from,
     );
 }
 
-fn ask_counts(
-    counts: &[u64],
-    times: &[i64],
-    rates: &[u64],
-    unknown: u64,
-    timed: bool,
-    asked: u64,
-    name: &[u8],
-) {
+fn ask_counts(counts: &[u64], times: &[i64], rates: &[u64], timed: bool, asked: u64, name: &[u8]) {
     let from = libc::clock();
     line(
         name,
         asked,
-        counts_at(counts, times, rates, unknown, asked, latest(last(counts))),
+        counts_at(counts, times, rates, asked, latest(last(counts))),
         timed,
         from,
     );
@@ -128,23 +112,23 @@ fn last(counts: &[u64]) -> u64 {
     counts[n - 1]
 }
 
-fn times_of(counts: &[u64], times: &[i64], rates: &[u64], unknown: u64, asked: u64) -> u64 {
+fn times_of(counts: &[u64], times: &[i64], rates: &[u64], asked: u64) -> u64 {
     let mut sum: u64 = 0;
     let mut x: u64 = 1;
     let mut k: u64 = 0;
     while k < asked {
         x = next(x);
-        sum = mixed(sum, time_of(counts, times, rates, unknown, scaled(x, LAST)));
+        sum = mixed(sum, time_of(counts, times, rates, scaled(x, LAST)));
         k += 1;
     }
     sum
 }
 
-fn time_of(counts: &[u64], times: &[i64], rates: &[u64], unknown: u64, encoded: u64) -> u64 {
+fn time_of(counts: &[u64], times: &[i64], rates: &[u64], encoded: u64) -> u64 {
     let starts = [0u64];
     let ends = [LAST];
     match time::time_of(
-        layout(unknown),
+        layout(unknown()),
         &starts,
         &ends,
         counts,
@@ -157,14 +141,7 @@ fn time_of(counts: &[u64], times: &[i64], rates: &[u64], unknown: u64, encoded: 
     }
 }
 
-fn counts_at(
-    counts: &[u64],
-    times: &[i64],
-    rates: &[u64],
-    unknown: u64,
-    asked: u64,
-    most: u64,
-) -> u64
+fn counts_at(counts: &[u64], times: &[i64], rates: &[u64], asked: u64, most: u64) -> u64
     requires { ⌜ most < 1000000000000 ⌝ }
 {
     let mut sum: u64 = 0;
@@ -172,56 +149,54 @@ fn counts_at(
     let mut k: u64 = 0;
     while k < asked {
         x = next(x);
-        sum = mixed(
-            sum,
-            count_at(counts, times, rates, unknown, scaled(x, most) as i64),
-        );
+        sum = mixed(sum, count_at(counts, times, rates, scaled(x, most) as i64));
         k += 1;
     }
     sum
 }
 
-fn count_at(counts: &[u64], times: &[i64], rates: &[u64], unknown: u64, time: i64) -> u64 {
+fn count_at(counts: &[u64], times: &[i64], rates: &[u64], time: i64) -> u64 {
     let starts = [0u64];
     let ends = [LAST];
-    match time::count_at(layout(unknown), &starts, &ends, counts, times, rates, time) {
+    match time::count_at(
+        layout(unknown()),
+        &starts,
+        &ends,
+        counts,
+        times,
+        rates,
+        time,
+    ) {
         CountAnswer::Count(count) => count,
         CountAnswer::Refused(number) => number,
     }
 }
 
-pub fn bench_steps(
-    timed: bool,
-    counts: &[u64],
-    times: &[i64],
-    rates: &[u64],
-    unknown: u64,
-    asked: u64,
-) {
+pub fn bench_steps(timed: bool, counts: &[u64], times: &[i64], rates: &[u64], asked: u64) {
     let from = libc::clock();
     line(
         b"steps-back-10000",
         asked,
-        steps(counts, times, rates, unknown, asked),
+        steps(counts, times, rates, asked),
         timed,
         from,
     );
 }
 
-fn steps(counts: &[u64], times: &[i64], rates: &[u64], unknown: u64, asked: u64) -> u64 {
+fn steps(counts: &[u64], times: &[i64], rates: &[u64], asked: u64) -> u64 {
     let mut sum: u64 = 0;
     let mut k: u64 = 0;
     while k < asked {
-        sum = mixed(sum, steps_back(counts, times, rates, unknown));
+        sum = mixed(sum, steps_back(counts, times, rates));
         k += 1;
     }
     sum
 }
 
-fn steps_back(counts: &[u64], times: &[i64], rates: &[u64], unknown: u64) -> u64 {
+fn steps_back(counts: &[u64], times: &[i64], rates: &[u64]) -> u64 {
     let starts = [0u64];
     let ends = [LAST];
-    match tables::steps_back(layout(unknown), &starts, &ends, counts, times, rates) {
+    match tables::steps_back(layout(unknown()), &starts, &ends, counts, times, rates) {
         StepsBackAnswer::Yes => 1,
         StepsBackAnswer::No => 0,
         StepsBackAnswer::Refused(number) => number,

@@ -1,6 +1,7 @@
 // Reading and printing stamps, under two partitions.
 ghost use Prim.Native.Nat.{_≤_, _<_, _+_};
 ghost use lib.ListN.{length};
+use crate::unknown;
 use bench_report::LAST;
 use bench_report::layout;
 use bench_report::line;
@@ -16,7 +17,7 @@ const TEXTS: usize = 256;
 
 const TEXT: usize = 14;
 
-pub fn bench(timed: bool, unknown: u64) {
+pub fn bench(timed: bool) {
     let mut texts = [0u8; 3584];
     fill_texts(&mut texts);
     let reads = often(timed, 5_000_000, 1_000);
@@ -24,19 +25,13 @@ pub fn bench(timed: bool, unknown: u64) {
     line(
         b"read-stamp",
         reads,
-        read_stamps(&texts, reads, unknown),
+        read_stamps(&texts, reads),
         timed,
         from,
     );
     let prints = often(timed, 5_000_000, 1_000);
     let from = libc::clock();
-    line(
-        b"print-stamp",
-        prints,
-        print_stamps(prints, unknown),
-        timed,
-        from,
-    );
+    line(b"print-stamp", prints, print_stamps(prints), timed, from);
 }
 
 fn put_digits(out: &mut [u8], at: usize, width: usize, value: u64)
@@ -81,19 +76,19 @@ fn fill_texts(out: &mut [u8]) {
     }
 }
 
-fn read_stamps(texts: &[u8], times: u64, unknown: u64) -> u64 {
+fn read_stamps(texts: &[u8], times: u64) -> u64 {
     let mut sum: u64 = 0;
     let mut x: u64 = 1;
     let mut k: u64 = 0;
     while k < times {
         x = next(x);
-        sum = mixed(sum, read_stamp(texts, x, unknown));
+        sum = mixed(sum, read_stamp(texts, x));
         k += 1;
     }
     sum
 }
 
-fn read_stamp(texts: &[u8], x: u64, unknown: u64) -> u64 {
+fn read_stamp(texts: &[u8], x: u64) -> u64 {
     let starts = [0u64, 0];
     let ends = [LAST, LAST];
     let at = (x % 256) as usize * TEXT;
@@ -101,29 +96,29 @@ fn read_stamp(texts: &[u8], x: u64, unknown: u64) -> u64 {
     if texts.len() < end {
         return 0;
     }
-    match text::read_stamp(layout(unknown), &starts, &ends, &texts[at..end]) {
+    match text::read_stamp(layout(unknown()), &starts, &ends, &texts[at..end]) {
         CountAnswer::Count(count) => count,
         CountAnswer::Refused(number) => number,
     }
 }
 
-fn print_stamps(times: u64, unknown: u64) -> u64 {
+fn print_stamps(times: u64) -> u64 {
     let mut sum: u64 = 0;
     let mut x: u64 = 1;
     let mut k: u64 = 0;
     while k < times {
         x = next(x);
-        sum = mixed(sum, print_stamp(scaled(x, LAST + LAST), unknown));
+        sum = mixed(sum, print_stamp(scaled(x, LAST + LAST)));
         k += 1;
     }
     sum
 }
 
-fn print_stamp(encoded: u64, unknown: u64) -> u64 {
+fn print_stamp(encoded: u64) -> u64 {
     let starts = [0u64, 0];
     let ends = [LAST, LAST];
     let mut buffer = [0u8; 32];
-    let printed = print::print_stamp(layout(unknown), &starts, &ends, encoded, &mut buffer);
+    let printed = print::print_stamp(layout(unknown()), &starts, &ends, encoded, &mut buffer);
     mark(printed, &buffer)
 }
 

@@ -8,12 +8,12 @@ pub const LAST: u64 = 3_145_727_999;
 
 // `unknown` is 0. The compiler cannot know that, so it does not reckon with the layout's numbers beforehand.
 pub fn layout(unknown: u64) -> Layout {
-    let zero = unknown % 2;
+    let zero = unknown % 4_294_967_296;
     Layout {
         n: 3 + zero as usize,
         moduli: [65_536 + zero, 60 + zero, 800 + zero, 0, 0, 0, 0, 0, 0, 0],
         offsets: [zero, zero, 1 + zero, 0, 0, 0, 0, 0, 0, 0],
-        delimiter: 2 + zero as u8,
+        delimiter: 2 + (zero % 8) as u8,
     }
 }
 

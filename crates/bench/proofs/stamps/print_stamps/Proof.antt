@@ -4,10 +4,10 @@ use Rattle.bench.proofs.stamps.print_stamps.Statement.{statement}
 use Rattle.bench.proofs.stamps.print_stamps.Tie as tie
 
 abbrev Inv-loop : tie.InvT-loop
-Inv-loop times unknown sum₀ x₀ k₀ sum x k = (x < 2147483648) × (sum < 1000000007)
+Inv-loop times sum₀ x₀ k₀ sum x k = (x < 2147483648) × (sum < 1000000007)
 
 abbrev μ-loop : tie.MeasureT-loop
-μ-loop times unknown sum₀ x₀ k₀ sum x k = times - k
+μ-loop times sum₀ x₀ k₀ sum x k = times - k
 
 pub print-stamps-spec : {M : Type 1} → statement M
 print-stamps-spec =
