@@ -9,14 +9,12 @@ const MOST_ROWS: usize = 10000;
 
 fn main() {
     let timed = 1 < os::arg_count();
-    let layout = bench_report::layout((os::arg_count() / 4_294_967_296) as u64);
-    stamps::bench(timed, layout);
+    stamps::bench(timed);
     let mut counts = [0u64; MOST_ROWS];
     let mut times = [0i64; MOST_ROWS];
     let mut rates = [0u64; MOST_ROWS];
     rows::bench(
         timed,
-        layout,
         &mut counts,
         &mut times,
         &mut rates,
@@ -27,7 +25,6 @@ fn main() {
     );
     rows::bench(
         timed,
-        layout,
         &mut counts,
         &mut times,
         &mut rates,
@@ -39,7 +36,6 @@ fn main() {
     let asked = often(timed, 10_000, 100);
     rows::bench(
         timed,
-        layout,
         &mut counts,
         &mut times,
         &mut rates,
@@ -48,5 +44,5 @@ fn main() {
         b"time-of-10000",
         b"count-at-10000",
     );
-    rows::bench_steps(timed, layout, &counts, &times, &rates, asked);
+    rows::bench_steps(timed, &counts, &times, &rates, asked);
 }

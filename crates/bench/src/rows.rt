@@ -4,19 +4,18 @@ ghost use Prim.Native.Nat.{_≤_, _<_};
 ghost use lib.ListN.{length};
 use bench_report::LAST;
 use bench_report::latest;
+use bench_report::layout;
 use bench_report::line;
 use bench_report::mixed;
 use bench_report::next;
 use bench_report::scaled;
 use rules::CountAnswer;
-use rules::Layout;
 use rules::StepsBackAnswer;
 use rules::TimeAnswer;
 
 // The first `rows` of each list.
 pub fn bench(
     timed: bool,
-    layout: Layout,
     counts: &mut [u64],
     times: &mut [i64],
     rates: &mut [u64],
@@ -31,7 +30,6 @@ pub fn bench(
     let last = fill(counts, times, rates, rows, LAST / rows as u64);
     ask(
         timed,
-        layout,
         &counts[0..rows],
         &times[0..rows],
         &rates[0..rows],
@@ -44,7 +42,6 @@ pub fn bench(
 
 fn ask(
     timed: bool,
-    layout: Layout,
     counts: &[u64],
     times: &[i64],
     rates: &[u64],
@@ -56,10 +53,10 @@ fn ask(
     requires { ⌜ most < 1000000000000 ⌝ }
 {
     let from = libc::clock();
-    let sum = times_of(layout, counts, times, rates, asked);
+    let sum = times_of(counts, times, rates, asked);
     line(time_name, asked, sum, timed, from);
     let from = libc::clock();
-    let sum = counts_at(layout, counts, times, rates, asked, most);
+    let sum = counts_at(counts, times, rates, asked, most);
     line(count_name, asked, sum, timed, from);
 }
 
@@ -82,33 +79,26 @@ fn fill(counts: &mut [u64], times: &mut [i64], rates: &mut [u64], rows: usize, e
     last
 }
 
-fn times_of(layout: Layout, counts: &[u64], times: &[i64], rates: &[u64], asked: u64) -> u64 {
+fn times_of(counts: &[u64], times: &[i64], rates: &[u64], asked: u64) -> u64 {
     let mut sum: u64 = 0;
     let mut x: u64 = 1;
     let mut k: u64 = 0;
     while k < asked {
         x = next(x);
-        sum = mixed(sum, time_of(layout, counts, times, rates, scaled(x, LAST)));
+        sum = mixed(sum, time_of(counts, times, rates, scaled(x, LAST)));
         k += 1;
     }
     sum
 }
 
-fn time_of(layout: Layout, counts: &[u64], times: &[i64], rates: &[u64], encoded: u64) -> u64 {
-    match time::time_of(layout, &[0], &[LAST], counts, times, rates, encoded) {
+fn time_of(counts: &[u64], times: &[i64], rates: &[u64], encoded: u64) -> u64 {
+    match time::time_of(layout(), &[0], &[LAST], counts, times, rates, encoded) {
         TimeAnswer::Time(time) => signed::ordinal(time),
         TimeAnswer::Refused(number) => number,
     }
 }
 
-fn counts_at(
-    layout: Layout,
-    counts: &[u64],
-    times: &[i64],
-    rates: &[u64],
-    asked: u64,
-    most: u64,
-) -> u64
+fn counts_at(counts: &[u64], times: &[i64], rates: &[u64], asked: u64, most: u64) -> u64
     requires { ⌜ most < 1000000000000 ⌝ }
 {
     let mut sum: u64 = 0;
@@ -116,42 +106,32 @@ fn counts_at(
     let mut k: u64 = 0;
     while k < asked {
         x = next(x);
-        sum = mixed(
-            sum,
-            count_at(layout, counts, times, rates, scaled(x, most) as i64),
-        );
+        sum = mixed(sum, count_at(counts, times, rates, scaled(x, most) as i64));
         k += 1;
     }
     sum
 }
 
-fn count_at(layout: Layout, counts: &[u64], times: &[i64], rates: &[u64], at: i64) -> u64 {
-    match time::count_at(layout, &[0], &[LAST], counts, times, rates, at) {
+fn count_at(counts: &[u64], times: &[i64], rates: &[u64], at: i64) -> u64 {
+    match time::count_at(layout(), &[0], &[LAST], counts, times, rates, at) {
         CountAnswer::Count(count) => count,
         CountAnswer::Refused(number) => number,
     }
 }
 
-pub fn bench_steps(
-    timed: bool,
-    layout: Layout,
-    counts: &[u64],
-    times: &[i64],
-    rates: &[u64],
-    asked: u64,
-) {
+pub fn bench_steps(timed: bool, counts: &[u64], times: &[i64], rates: &[u64], asked: u64) {
     let from = libc::clock();
     let mut sum: u64 = 0;
     let mut k: u64 = 0;
     while k < asked {
-        sum = mixed(sum, steps_back(layout, counts, times, rates));
+        sum = mixed(sum, steps_back(counts, times, rates));
         k += 1;
     }
     line(b"steps-back-10000", asked, sum, timed, from);
 }
 
-fn steps_back(layout: Layout, counts: &[u64], times: &[i64], rates: &[u64]) -> u64 {
-    match tables::steps_back(layout, &[0], &[LAST], counts, times, rates) {
+fn steps_back(counts: &[u64], times: &[i64], rates: &[u64]) -> u64 {
+    match tables::steps_back(layout(), &[0], &[LAST], counts, times, rates) {
         StepsBackAnswer::Yes => 1,
         StepsBackAnswer::No => 2,
         StepsBackAnswer::Refused(number) => number,

@@ -2,13 +2,13 @@
 ghost use Prim.Native.Nat.{_≤_, _<_};
 ghost use lib.ListN.{length};
 use bench_report::LAST;
+use bench_report::layout;
 use bench_report::line;
 use bench_report::mixed;
 use bench_report::next;
 use bench_report::often;
 use bench_report::scaled;
 use rules::CountAnswer;
-use rules::Layout;
 use rules::PrintAnswer;
 
 const TEXTS: usize = 256;
@@ -16,75 +16,75 @@ const TEXTS: usize = 256;
 // A stamp `1/ddddd:dd:ddd`.
 const TEXT: usize = 14;
 
-pub fn bench(timed: bool, layout: Layout) {
+pub fn bench(timed: bool) {
     let asked = often(timed, 5_000_000, 1_000);
     let mut texts = [0u8; 3584];
-    fill(layout, &mut texts);
+    fill(&mut texts);
     let from = libc::clock();
-    let sum = read_stamps(layout, &texts, asked);
+    let sum = read_stamps(&texts, asked);
     line(b"read-stamp", asked, sum, timed, from);
     let from = libc::clock();
-    let sum = print_stamps(layout, asked);
+    let sum = print_stamps(asked);
     line(b"print-stamp", asked, sum, timed, from);
 }
 
 // Stamps of the first partition, one behind the other.
-fn fill(layout: Layout, texts: &mut [u8]) {
+fn fill(texts: &mut [u8]) {
     let mut x: u64 = 1;
     let mut i = 0;
     while i < TEXTS {
         x = next(x);
-        put(layout, texts, i * TEXT, scaled(x, LAST));
+        put(texts, i * TEXT, scaled(x, LAST));
         i += 1;
     }
 }
 
-fn put(layout: Layout, texts: &mut [u8], at: usize, encoded: u64) {
+fn put(texts: &mut [u8], at: usize, encoded: u64) {
     if at < texts.len() {
-        print::print_stamp(layout, &[0, 0], &[LAST, LAST], encoded, &mut texts[at..]);
+        print::print_stamp(layout(), &[0, 0], &[LAST, LAST], encoded, &mut texts[at..]);
     }
 }
 
-fn read_stamps(layout: Layout, texts: &[u8], asked: u64) -> u64 {
+fn read_stamps(texts: &[u8], asked: u64) -> u64 {
     let mut sum: u64 = 0;
     let mut x: u64 = 1;
     let mut k: u64 = 0;
     while k < asked {
         x = next(x);
-        sum = mixed(sum, read_stamp(layout, texts, (x % 256) as usize * TEXT));
+        sum = mixed(sum, read_stamp(texts, (x % 256) as usize * TEXT));
         k += 1;
     }
     sum
 }
 
-fn read_stamp(layout: Layout, texts: &[u8], at: usize) -> u64
+fn read_stamp(texts: &[u8], at: usize) -> u64
     requires { ⌜ at < 4096 ⌝ }
 {
     let end = at + TEXT;
     if texts.len() < end {
         return 0;
     }
-    match text::read_stamp(layout, &[0, 0], &[LAST, LAST], &texts[at..end]) {
+    match text::read_stamp(layout(), &[0, 0], &[LAST, LAST], &texts[at..end]) {
         CountAnswer::Count(count) => count,
         CountAnswer::Refused(number) => number,
     }
 }
 
-fn print_stamps(layout: Layout, asked: u64) -> u64 {
+fn print_stamps(asked: u64) -> u64 {
     let mut sum: u64 = 0;
     let mut x: u64 = 1;
     let mut k: u64 = 0;
     while k < asked {
         x = next(x);
-        sum = mixed(sum, print_stamp(layout, scaled(x, LAST + LAST)));
+        sum = mixed(sum, print_stamp(scaled(x, LAST + LAST)));
         k += 1;
     }
     sum
 }
 
-fn print_stamp(layout: Layout, encoded: u64) -> u64 {
+fn print_stamp(encoded: u64) -> u64 {
     let mut buffer = [0u8; 32];
-    let printed = print::print_stamp(layout, &[0, 0], &[LAST, LAST], encoded, &mut buffer);
+    let printed = print::print_stamp(layout(), &[0, 0], &[LAST, LAST], encoded, &mut buffer);
     mark(printed, &buffer)
 }
 

@@ -8,14 +8,15 @@ use rules::Layout;
 // Moduli 65536, 60, 800, offsets 0, 0, 1: one field count is 48,000 ticks.
 pub const LAST: u64 = 3_145_727_999;
 
-// `unknown` is 0. The compiler cannot know that, so it does not reckon with the layout's numbers beforehand.
-pub fn layout(unknown: u64) -> Layout {
-    let zero = unknown % 2;
+// The compiler cannot know these numbers, nor that they are the same for the next question: else it would divide by constants,
+// and check the layout once for all questions.
+pub fn layout() -> Layout {
+    let zero = (os::arg_count() / 4_294_967_296) as u64 % 4_294_967_296;
     Layout {
         n: 3 + zero as usize,
         moduli: [65_536 + zero, 60 + zero, 800 + zero, 0, 0, 0, 0, 0, 0, 0],
         offsets: [zero, zero, 1 + zero, 0, 0, 0, 0, 0, 0, 0],
-        delimiter: 2 + zero as u8,
+        delimiter: 2 + (zero % 8) as u8,
     }
 }
 

@@ -13,9 +13,12 @@ use Rattle.rules.specs.Segments.{unitOf}
 use Rattle.rules.specs.Facts.{LayoutFacts}
 use Rattle.rules.proofs.Accepted.{layout-facts}
 use Rattle.layouts.specs.declared.Measured.{Measured}
-use Rattle.layouts.specs.Measure.{MeasureOf}
+use Rattle.layouts.specs.Measure.{MeasureOf, Measures}
 
 module _ (l : Layout) (r : Measured) (w : MeasureOf l r) where
+  pub measures : Measures r
+  measures = record { layout = l; measure = w }
+
   pub measured-bad : r .ok ≡ false → layoutOk l ≡ false
   measured-bad e = sym (w .same) ∙ e
 

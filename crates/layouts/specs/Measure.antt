@@ -9,3 +9,8 @@ pub record MeasureOf (l : Layout) (r : Measured) : Type 0 where
   pub same : r .ok ≡ layoutOk l
   pub product : r .ok ≡ true → r .product ≡ productOf l
   pub msf : r .ok ≡ true → r .msf ≡ msfOf l
+
+-- it is the measure of some layout
+pub record Measures (r : Measured) : Type 0 where
+  pub layout : Layout
+  pub measure : MeasureOf layout r

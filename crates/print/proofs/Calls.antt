@@ -18,7 +18,7 @@ use Rattle.layouts.proofs.Uses.{measured-bad, measured-good, measured-facts, me
 use Rattle.tables.specs.declared.Acceptance.{Acceptance}
 use Rattle.tables.specs.declared.Acceptance.the-variants.{Accepted, Refused}
 use Rattle.tables.specs.declared.Basis.{Basis}
-use Rattle.tables.specs.Accept.{acceptance, acceptedStamps, basis}
+use Rattle.tables.specs.Accept.{acceptance, acceptedStamps, basis, StampsOf}
 use Rattle.tables.proofs.Uses.{stamps-facts, stamps-refused, stamps-accepted}
 use Rattle.print.specs.Printed.{Printed}
 
@@ -65,7 +65,10 @@ module _ (l : Layout) (c room : ℕ) (r : PrintAnswer) (entry exit : List ℕ) w
       unfolding printCount unless
       count-printed k v = rw (good l m w t, lt-ltb c (productOf l) (count-below l m w t c k)) v
 
-module _ (l : Layout) (p : Partitions) (q : Acceptance) (a : acceptance q ≡ acceptedStamps l p (answer (basis l p))) (b : Basis) (s : q ≡ Accepted b) where
+module _ (l : Layout) (m : Measured) (w : MeasureOf l m) (p : Partitions) (q : Acceptance) (v : StampsOf m p q) (b : Basis) (s : q ≡ Accepted b) where
+  a : acceptance q ≡ acceptedStamps l p (answer (basis l p))
+  a = v .same l w
+
   pub stamp-layout : LayoutFacts l
   stamp-layout = stamps-facts l p q a b s .layout
 
@@ -85,20 +88,20 @@ module _ (l : Layout) (p : Partitions) (e room : ℕ) (r : PrintAnswer) (entry e
   unfolding stampPrint countPrint
   stamp-print d partition count ed ep ec w = rw (ed, ec, ep) at w
 
-  module _ (q : Acceptance) (a : acceptance q ≡ acceptedStamps l p (answer (basis l p))) where
+  module _ (m : Measured) (w : MeasureOf l m) (q : Acceptance) (v : StampsOf m p q) where
     pub stamp-tables : (k : ℕ) → q ≡ Refused k → printAnswer r ≡ refused k → Printed (printStamp l p e room) r entry entry
     unfolding printStamp
-    stamp-tables k s h = left-alone r entry _ k (stamps-refused l p q a k _ s) h
+    stamp-tables k s h = left-alone r entry _ k (stamps-refused l p q (v .same l w) k _ s) h
 
     module _ (b : Basis) (s : q ≡ Accepted b) where
       stamp-next : printStamp l p e room ≡ unless 12 (leb e (totalOf p)) (fitting room (stampPrint l p e))
       unfolding printStamp
-      stamp-next = sym (stamps-accepted l p q a b s _ (unless 12 (leb e (totalOf p)) (fitting room (stampPrint l p e))) refl)
+      stamp-next = sym (stamps-accepted l p q (v .same l w) b s _ (unless 12 (leb e (totalOf p)) (fitting room (stampPrint l p e))) refl)
 
       pub stamp-above : b .total < e → printAnswer r ≡ refused 12 → Printed (printStamp l p e room) r entry entry
       unfolding unless
-      stamp-above k h = left-alone r entry _ 12 (sym (stamp-next ∙ rw (lt-leb e (totalOf p) (rw (stamp-total l p q a b s) at k)))) h
+      stamp-above k h = left-alone r entry _ 12 (sym (stamp-next ∙ rw (lt-leb e (totalOf p) (rw (stamp-total l m w p q v b s) at k)))) h
 
       pub stamp-printed : e ≤ b .total → Printed (fitting room (stampPrint l p e)) r entry exit → Printed (printStamp l p e room) r entry exit
       unfolding unless
-      stamp-printed k w = rw (stamp-next, le-leb e (totalOf p) (stamp-held l p q a b s e k)) w
+      stamp-printed k x = rw (stamp-next, le-leb e (totalOf p) (stamp-held l m w p q v b s e k)) x

@@ -14,6 +14,7 @@ use crate::front::print_fields;
 use crate::front::print_numbered;
 use crate::front::refused;
 use decode::decode;
+use layouts::measure;
 use rules::Layout;
 use rules::PrintAnswer;
 use tables::Acceptance;
@@ -25,7 +26,7 @@ pub fn print_count(layout: Layout, count: u64, buffer: &mut [u8]) -> PrintAnswer
     ensures { λ r. ⌜ printAnswer r ≡ lengthPrinted (printCount layout count (length (now (buffer .entry)))) ⌝ }
     ensures { λ r. ⌜ now (buffer .exit) ≡ bufferAfter (printCount layout count (length (now (buffer .entry)))) (now (buffer .entry)) ⌝ }
 {
-    let measured = layouts::measure(layout);
+    let measured = measure(layout);
     if !measured.ok {
         return refused(refusals::LAYOUT);
     }
@@ -46,7 +47,7 @@ pub fn print_stamp(
     ensures { λ r. ⌜ printAnswer r ≡ lengthPrinted (printStamp layout (partitions (now (starts .entry)) (now (ends .entry))) encoded (length (now (buffer .entry)))) ⌝ }
     ensures { λ r. ⌜ now (buffer .exit) ≡ bufferAfter (printStamp layout (partitions (now (starts .entry)) (now (ends .entry))) encoded (length (now (buffer .entry)))) (now (buffer .entry)) ⌝ }
 {
-    match tables::accept_stamps(layout, starts, ends) {
+    match tables::accept_stamps(measure(layout), starts, ends) {
         Acceptance::Refused(number) => refused(number),
         Acceptance::Accepted(basis) => {
             if basis.total < encoded {

@@ -9,44 +9,56 @@ use Rattle.rules.specs.Answer.{answer, refused, unless, stepsBackAnswer}
 use Rattle.rules.specs.Partitions.{Partitions}
 use Rattle.rules.specs.Segments.{Segments, segmentsOk, stepsBack}
 use Rattle.rules.specs.Time.{accepted, stepsBackIn}
+use Rattle.layouts.specs.declared.Measured.{Measured}
+use Rattle.layouts.specs.Measure.{MeasureOf, Measures}
 use Rattle.segments.specs.Check.{CheckOf}
 use Rattle.segments.specs.StepsBack.{Rising, StepsBackOf}
 use Rattle.segments.proofs.Uses.{checked-same, steps-same, rising}
 use Rattle.tables.specs.declared.Basis.{Basis}
 use Rattle.tables.specs.declared.Acceptance.{Acceptance}
 use Rattle.tables.specs.declared.Acceptance.the-variants.{Accepted, Refused}
-use Rattle.tables.specs.Accept.{basis, acceptance, acceptedStamps}
+use Rattle.tables.specs.Accept.{basis, acceptance, acceptedStamps, StampsOf, TableOf}
 use Rattle.tables.proofs.Uses.{stamps-refused, stamps-basis, stamps-facts, stamps-accepted, table-refused, table-facts, table-accepted, basis-positive}
 
-module _ (l : Layout) (p : Partitions) where
+module _ (m : Measured) (p : Partitions) where
   -- `accept`, after `accept_stamps` answered r
-  module _ (r : Acceptance) (e : acceptance r ≡ acceptedStamps l p (answer (basis l p))) where
-    pub stamps-out : (g : Segments) (k : ℕ) (x : Acceptance) → r ≡ Refused k → x ≡ Refused k → acceptance x ≡ accepted l p g (answer (basis l p))
+  module _ (r : Acceptance) (e : StampsOf m p r) where
+    pub stamps-out : (g : Segments) (k : ℕ) (x : Acceptance) → r ≡ Refused k → x ≡ Refused k → TableOf m p g x
     unfolding accepted
-    stamps-out g k x h q = ap acceptance q ∙ stamps-refused l p r e k (unless 3 (segmentsOk l p g) (answer (basis l p))) h
+    stamps-out g k x h q =
+        record { same = λ l w. ap acceptance q ∙ stamps-refused l p r (e .same l w) k (unless 3 (segmentsOk l p g) (answer (basis l p))) h }
 
     module _ (b : Basis) (h : r ≡ Accepted b) where
-      pub unit-divides : 1 ≤ b .unit
-      unit-divides = basis-positive l p b (stamps-facts l p r e b h)
+      pub unit-divides : Measures m → 1 ≤ b .unit
+      unit-divides s = basis-positive (s .layout) p b (stamps-facts (s .layout) p r (e .same (s .layout) (s .measure)) b h)
 
-      module _ (g : Segments) (t : Bool) (w : CheckOf (b .unit) (b .total) g t) (x : Acceptance) where
-        segments-test : t ≡ segmentsOk l p g
-        segments-test =
-            let f = stamps-facts l p r e b h in
-            checked-same (b .unit) g t l (f .unit) (b .total) p (f .total) w
+      module _ (g : Segments) (t : Bool) (v : CheckOf (b .unit) (b .total) g t) (x : Acceptance) where
+        segments-test : (l : Layout) → MeasureOf l m → t ≡ segmentsOk l p g
+        segments-test l w =
+            let f = stamps-facts l p r (e .same l w) b h in
+            checked-same (b .unit) g t l (f .unit) (b .total) p (f .total) v
 
-        pub segments-out : t ≡ false → x ≡ Refused 3 → acceptance x ≡ accepted l p g (answer (basis l p))
+        pub segments-out : t ≡ false → x ≡ Refused 3 → TableOf m p g x
         unfolding accepted unless
         segments-out f q =
-            ap acceptance q ∙ stamps-accepted l p r e b h (refused 3) (unless 3 (segmentsOk l p g) (answer (basis l p))) (rw (sym segments-test ∙ f))
+            record {
+              same = λ l w.
+                  ap acceptance q ∙ stamps-accepted l p r (e .same l w) b h (refused 3) (unless 3 (segmentsOk l p g) (answer (basis l p))) (rw (sym (segments-test l w) ∙ f));
+            }
 
-        pub all-three : t ≡ true → x ≡ Accepted b → acceptance x ≡ accepted l p g (answer (basis l p))
+        pub all-three : t ≡ true → x ≡ Accepted b → TableOf m p g x
         unfolding accepted unless
         all-three y q =
-            ap acceptance q ∙ stamps-accepted l p r e b h (answer b) (unless 3 (segmentsOk l p g) (answer (basis l p))) (rw (sym segments-test ∙ y) (ap answer (sym (stamps-basis l p r e b h))))
+            record {
+              same = λ l w.
+                  ap acceptance q ∙ stamps-accepted l p r (e .same l w) b h (answer b) (unless 3 (segmentsOk l p g) (answer (basis l p))) (rw (sym (segments-test l w) ∙ y) (ap answer (sym (stamps-basis l p r (e .same l w) b h))));
+            }
 
   -- `steps_back`, after `accept` answered r
-  module _ (g : Segments) (r : Acceptance) (e : acceptance r ≡ accepted l p g (answer (basis l p))) where
+  module _ (g : Segments) (r : Acceptance) (s : TableOf m p g r) (l : Layout) (w : MeasureOf l m) where
+    e : acceptance r ≡ accepted l p g (answer (basis l p))
+    e = s .same l w
+
     pub table-out : (k : ℕ) (x : StepsBackAnswer) → r ≡ Refused k → x ≡ Stepped.Refused k → stepsBackAnswer x ≡ stepsBackIn l p g
     unfolding stepsBackIn
     table-out k x h q = ap stepsBackAnswer q ∙ table-refused l p g r e k (answer (stepsBack l g)) h
@@ -59,5 +71,5 @@ module _ (l : Layout) (p : Partitions) where
 
       pub stepped : (t s : Bool) → StepsBackOf (b .unit) g t → t ≡ s → answer s ≡ stepsBackIn l p g
       unfolding stepsBackIn
-      stepped t s w q =
-          table-accepted l p g r e b h (answer s) (answer (stepsBack l g)) (ap answer (sym q ∙ steps-same (b .unit) g t l (table-facts l p g r e b h .stamps .unit) w))
+      stepped t s v q =
+          table-accepted l p g r e b h (answer s) (answer (stepsBack l g)) (ap answer (sym q ∙ steps-same (b .unit) g t l (table-facts l p g r e b h .stamps .unit) v))

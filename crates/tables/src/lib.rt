@@ -1,12 +1,15 @@
 // Whether tables are accepted: 1 layout, 2 partitions, 3 segments, in this order, with the numbers that calls need of them;
 // and the question whether a table steps back.
 ghost use mathlib.Core.Path.{_≡_};
-ghost use Rattle.rules.specs.Answer.{answer, stepsBackAnswer};
+ghost use Rattle.rules.specs.Answer.{stepsBackAnswer};
 ghost use Rattle.rules.specs.Partitions.{partitions};
 ghost use Rattle.rules.specs.Segments.{segments};
-ghost use Rattle.rules.specs.Time.{accepted, stepsBackIn};
-ghost use Rattle.tables.specs.Accept.{acceptance, basis, acceptedStamps};
+ghost use Rattle.rules.specs.Time.{stepsBackIn};
+ghost use Rattle.layouts.specs.Measure.{Measures};
+ghost use Rattle.tables.specs.Accept.{StampsOf, TableOf};
+use layouts::Measured;
 use layouts::limits::PICOSECONDS;
+use layouts::measure;
 use rules::Layout;
 use rules::StepsBackAnswer;
 
@@ -22,11 +25,12 @@ pub enum Acceptance {
     Refused(u64),
 }
 
-// Layout and partitions: what a stamp is read and printed by.
-pub fn accept_stamps(layout: Layout, starts: &[u64], ends: &[u64]) -> Acceptance
-    ensures { λ r. ⌜ acceptance r ≡ acceptedStamps layout (partitions (now (starts .entry)) (now (ends .entry))) (answer (basis layout (partitions (now (starts .entry)) (now (ends .entry))))) ⌝ }
+// Layout and partitions: what a stamp is read and printed by. The layout is long, so it stays with the call, and its measure
+// is handed on.
+pub fn accept_stamps(measured: Measured, starts: &[u64], ends: &[u64]) -> Acceptance
+    requires { ⌜ Measures measured ⌝ }
+    ensures { λ r. ⌜ StampsOf measured (partitions (now (starts .entry)) (now (ends .entry))) r ⌝ }
 {
-    let measured = layouts::measure(layout);
     if !measured.ok {
         return Acceptance::Refused(refusals::LAYOUT);
     }
@@ -43,16 +47,17 @@ pub fn accept_stamps(layout: Layout, starts: &[u64], ends: &[u64]) -> Acceptance
 
 // Layout, partitions and segments: what times are turned by.
 pub fn accept(
-    layout: Layout,
+    measured: Measured,
     starts: &[u64],
     ends: &[u64],
     counts: &[u64],
     times: &[i64],
     rates: &[u64],
 ) -> Acceptance
-    ensures { λ r. ⌜ acceptance r ≡ accepted layout (partitions (now (starts .entry)) (now (ends .entry))) (segments (now (counts .entry)) (now (times .entry)) (now (rates .entry))) (answer (basis layout (partitions (now (starts .entry)) (now (ends .entry))))) ⌝ }
+    requires { ⌜ Measures measured ⌝ }
+    ensures { λ r. ⌜ TableOf measured (partitions (now (starts .entry)) (now (ends .entry))) (segments (now (counts .entry)) (now (times .entry)) (now (rates .entry))) r ⌝ }
 {
-    match accept_stamps(layout, starts, ends) {
+    match accept_stamps(measured, starts, ends) {
         Acceptance::Refused(k) => refused(k),
         Acceptance::Accepted(b) => {
             if segments::check(b.unit, b.total, counts, times, rates) {
@@ -74,7 +79,7 @@ pub fn steps_back(
 ) -> StepsBackAnswer
     ensures { λ r. ⌜ stepsBackAnswer r ≡ stepsBackIn layout (partitions (now (starts .entry)) (now (ends .entry))) (segments (now (counts .entry)) (now (times .entry)) (now (rates .entry))) ⌝ }
 {
-    match accept(layout, starts, ends, counts, times, rates) {
+    match accept(measure(layout), starts, ends, counts, times, rates) {
         Acceptance::Refused(k) => steps_refused(k),
         Acceptance::Accepted(b) => {
             if segments::steps_back(b.unit, counts, times, rates) {

@@ -23,10 +23,12 @@ use Rattle.rules.specs.Partitions.{Partitions, partitionsIn}
 use Rattle.rules.specs.Text.{isAllowed, fieldsOf, readText}
 use Rattle.rules.specs.Stamp.{slashIn, frontOk, frontNumber, encodeNamed, encodeFirst, stampAt, readStamp}
 use Rattle.rules.specs.Facts.{LayoutFacts}
+use Rattle.layouts.specs.declared.Measured.{Measured}
+use Rattle.layouts.specs.Measure.{MeasureOf}
 use Rattle.tables.specs.declared.Basis.{Basis}
 use Rattle.tables.specs.declared.Acceptance.{Acceptance}
 use Rattle.tables.specs.declared.Acceptance.the-variants as Accepts
-use Rattle.tables.specs.Accept.{acceptance, basis, acceptedStamps}
+use Rattle.tables.specs.Accept.{acceptance, basis, acceptedStamps, StampsOf}
 use Rattle.tables.proofs.Uses.{stamps-refused, stamps-facts, stamps-accepted}
 use Rattle.encode.specs.Listed.{Listed}
 use Rattle.encode.proofs.Sums.{listed}
@@ -218,7 +220,10 @@ module _ (l : Layout) where
   unfolding readText textCount countIn unless
   text-accepted s a y h e = rw y (rw (same-count l h (fieldsOf s)) at e)
 
-  module _ (p : Partitions) (s : List ℕ) (r : Acceptance) (e : acceptance r ≡ acceptedStamps l p (answer (basis l p))) where
+  module _ (m : Measured) (w : MeasureOf l m) (p : Partitions) (s : List ℕ) (r : Acceptance) (v : StampsOf m p r) where
+    e : acceptance r ≡ acceptedStamps l p (answer (basis l p))
+    e = v .same l w
+
     pub stamp-refused : (k : ℕ) (a : CountAnswer) → r ≡ Accepts.Refused k → a ≡ Answered.Refused k → countAnswer a ≡ readStamp l p s
     unfolding readStamp
     stamp-refused k a h f = rw f (stamps-refused l p r e k _ h)

@@ -15,6 +15,7 @@ use fields::count;
 use fields::is_number;
 use fields::scan;
 use layouts::limits::LONGEST_TEXT;
+use layouts::measure;
 use rules::CountAnswer;
 use rules::Layout;
 use tables::Acceptance;
@@ -24,7 +25,7 @@ use tables::accept_stamps;
 pub fn read_text(layout: Layout, text: &[u8]) -> CountAnswer
     ensures { λ r. ⌜ countAnswer r ≡ readText layout (now (text .entry)) ⌝ }
 {
-    let measured = layouts::measure(layout);
+    let measured = measure(layout);
     if !measured.ok {
         return CountAnswer::Refused(refusals::LAYOUT);
     }
@@ -37,7 +38,7 @@ pub fn read_stamp(layout: Layout, starts: &[u64], ends: &[u64], text: &[u8]) -> 
     ensures { λ r. ⌜ countAnswer r ≡ readStamp layout (partitions (now (starts .entry)) (now (ends .entry))) (now (text .entry)) ⌝ }
 {
     let n = layout.n;
-    match accept_stamps(layout, starts, ends) {
+    match accept_stamps(measure(layout), starts, ends) {
         Acceptance::Accepted(_) => stamp_count(
             &layout.moduli,
             &layout.offsets,

@@ -14,15 +14,20 @@ use Rattle.rules.specs.declared.Layout.{Layout}
 use Rattle.rules.specs.Partitions.{Partitions}
 use Rattle.rules.specs.Segments.{Segments}
 use Rattle.rules.specs.Time.{accepted, timeOf, countAt}
+use Rattle.layouts.specs.declared.Measured.{Measured}
+use Rattle.layouts.specs.Measure.{MeasureOf}
 use Rattle.tables.specs.declared.Basis.{Basis}
 use Rattle.tables.specs.declared.Acceptance.{Acceptance}
 use Rattle.tables.specs.declared.Acceptance.the-variants.{Accepted, Refused}
-use Rattle.tables.specs.Accept.{acceptance, basis}
+use Rattle.tables.specs.Accept.{acceptance, basis, TableOf}
 use Rattle.tables.proofs.Uses.{table-refused, table-facts, table-accepted}
 use Rattle.time.specs.Within.{timeWithin, countWithin, Usable}
 use Rattle.time.proofs.WithinLaws.{time-of-within, count-at-within, usable}
 
-module _ (l : Layout) (p : Partitions) (g : Segments) (r : Acceptance) (e : acceptance r ≡ accepted l p g (answer (basis l p))) where
+module _ (l : Layout) (m : Measured) (w : MeasureOf l m) (p : Partitions) (g : Segments) (r : Acceptance) (s : TableOf m p g r) where
+  e : acceptance r ≡ accepted l p g (answer (basis l p))
+  e = s .same l w
+
   pub time-refused : (k n : ℕ) (a : TimeAnswer) → a ≡ Timed.Refused k → r ≡ Refused k → timeAnswer a ≡ timeOf l p g n
   time-refused k n a q h = rw q (table-refused l p g r e k _ h ∙ sym (time-of-within l p g n))
 

@@ -4,6 +4,7 @@ ghost use Rattle.rules.specs.Answer.{timeAnswer, countAnswer};
 ghost use Rattle.rules.specs.Partitions.{partitions};
 ghost use Rattle.rules.specs.Segments.{segments};
 ghost use Rattle.rules.specs.Time.{timeOf, countAt};
+use layouts::measure;
 use rules::CountAnswer;
 use rules::Layout;
 use rules::TimeAnswer;
@@ -24,7 +25,7 @@ pub fn time_of(
 ) -> TimeAnswer
     ensures { λ r. ⌜ timeAnswer r ≡ timeOf layout (partitions (now (starts .entry)) (now (ends .entry))) (segments (now (counts .entry)) (now (times .entry)) (now (rates .entry))) encoded ⌝ }
 {
-    match accept(layout, starts, ends, counts, times, rates) {
+    match accept(measure(layout), starts, ends, counts, times, rates) {
         Acceptance::Accepted(b) => within::time_within(
             b.unit,
             b.total,
@@ -49,7 +50,7 @@ pub fn count_at(
 ) -> CountAnswer
     ensures { λ r. ⌜ countAnswer r ≡ countAt layout (partitions (now (starts .entry)) (now (ends .entry))) (segments (now (counts .entry)) (now (times .entry)) (now (rates .entry))) time ⌝ }
 {
-    match accept(layout, starts, ends, counts, times, rates) {
+    match accept(measure(layout), starts, ends, counts, times, rates) {
         Acceptance::Accepted(b) => within::count_within(
             b.unit,
             b.total,

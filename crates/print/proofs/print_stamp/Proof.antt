@@ -1,4 +1,5 @@
 use Rattle.print.proofs.Calls.{both, stamp-tables, stamp-layout, stamp-partitions, stamp-held, stamp-above, stamp-printed}
+use Rattle.layouts.proofs.Uses.{measures}
 use borrow.Author.Needs.{needs}
 use Rattle.print.proofs.print_stamp.Statement.{statement}
 use Rattle.print.proofs.print_stamp.Tie as tie
@@ -8,6 +9,7 @@ print-stamp-spec =
     tie.close
     (tie.spec
     (λ c κs. search needs)
+    (λ c κs. search (measures, needs))
     (λ c. search needs)
     (λ c κs. search needs)
     (λ c. search needs)

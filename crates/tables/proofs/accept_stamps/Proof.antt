@@ -5,4 +5,4 @@ use Rattle.tables.proofs.accept_stamps.Tie as tie
 
 pub accept-stamps-spec : {M : Type 1} → statement M
 accept-stamps-spec =
-    tie.close (tie.spec (λ c κs. search needs) (λ c. search (bad-layout, needs)) (λ c κs. search needs) (λ c. search (bad-partitions, needs)) (λ c. search (unit-fits, needs)) (λ c. search (both-good, needs)))
+    tie.close (tie.spec (λ c. search (bad-layout, needs)) (λ c κs. search needs) (λ c. search (bad-partitions, needs)) (λ c. search (unit-fits, needs)) (λ c. search (both-good, needs)))

@@ -1,3 +1,4 @@
+use Rattle.layouts.proofs.Uses.{measures}
 use Rattle.tables.proofs.Table.{rising-table, stepped, table-out}
 use borrow.Author.Needs.{needs}
 use Rattle.tables.proofs.steps_back.Statement.{statement}
@@ -8,6 +9,7 @@ steps-back-spec =
     tie.close
     (tie.spec
     (λ c κs. search needs)
+    (λ c κs. search (measures, needs))
     (λ c. search needs)
     (λ c κs. search needs)
     (λ c. search needs)

@@ -1,4 +1,5 @@
 use Rattle.text.proofs.Ways.{some-fields, few-fields, layout-of, listed-of, stamp-refused, stamp-accepted}
+use Rattle.layouts.proofs.Uses.{measures}
 use borrow.Author.Needs.{needs}
 use Rattle.text.proofs.read_stamp.Statement.{statement}
 use Rattle.text.proofs.read_stamp.Tie as tie
@@ -14,6 +15,7 @@ read-stamp-spec =
     tie.close
     (tie.spec
     (λ c κs. search needs)
+    (λ c κs. search (measures, needs))
     (λ c. search needs)
     stamp-count-requires
     (λ c. search needs)

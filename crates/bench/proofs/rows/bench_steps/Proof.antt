@@ -4,10 +4,10 @@ use Rattle.bench.proofs.rows.bench_steps.Statement.{statement}
 use Rattle.bench.proofs.rows.bench_steps.Tie as tie
 
 abbrev Inv-loop : tie.InvT-loop
-Inv-loop timed layout counts times rates asked from sum₀ k₀ t10 sum k = sum < 1000000007
+Inv-loop timed counts times rates asked from sum₀ k₀ t10 sum k = sum < 1000000007
 
 abbrev μ-loop : tie.MeasureT-loop
-μ-loop timed layout counts times rates asked from sum₀ k₀ t10 sum k = asked - k
+μ-loop timed counts times rates asked from sum₀ k₀ t10 sum k = asked - k
 
 pub bench-steps-spec : {M : Type 1} → statement M
 bench-steps-spec =

@@ -4,10 +4,10 @@ use Rattle.bench.proofs.rows.counts_at.Statement.{statement}
 use Rattle.bench.proofs.rows.counts_at.Tie as tie
 
 abbrev Inv-loop : tie.InvT-loop
-Inv-loop layout counts times rates asked most sum₀ x₀ k₀ sum x k = (x < 2147483648) × (sum < 1000000007)
+Inv-loop counts times rates asked most sum₀ x₀ k₀ sum x k = (x < 2147483648) × (sum < 1000000007)
 
 abbrev μ-loop : tie.MeasureT-loop
-μ-loop layout counts times rates asked most sum₀ x₀ k₀ sum x k = asked - k
+μ-loop counts times rates asked most sum₀ x₀ k₀ sum x k = asked - k
 
 pub counts-at-spec : {M : Type 1} → statement M
 counts-at-spec =

@@ -6,10 +6,10 @@ use Rattle.bench.proofs.stamps.fill.Statement.{statement}
 use Rattle.bench.proofs.stamps.fill.Tie as tie
 
 abbrev Inv-loop : tie.InvT-loop
-Inv-loop layout texts₀ x₀ i₀ texts x i = (x < 2147483648) × (length texts ≡ length texts₀)
+Inv-loop texts₀ x₀ i₀ texts x i = (x < 2147483648) × (length texts ≡ length texts₀)
 
 abbrev μ-loop : tie.MeasureT-loop
-μ-loop layout texts₀ x₀ i₀ texts x i = 256 - i
+μ-loop texts₀ x₀ i₀ texts x i = 256 - i
 
 pub fill-spec : {M : Type 1} → statement M
 fill-spec =

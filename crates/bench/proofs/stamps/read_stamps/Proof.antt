@@ -4,10 +4,10 @@ use Rattle.bench.proofs.stamps.read_stamps.Statement.{statement}
 use Rattle.bench.proofs.stamps.read_stamps.Tie as tie
 
 abbrev Inv-loop : tie.InvT-loop
-Inv-loop layout texts asked sum₀ x₀ k₀ sum x k = (x < 2147483648) × (sum < 1000000007)
+Inv-loop texts asked sum₀ x₀ k₀ sum x k = (x < 2147483648) × (sum < 1000000007)
 
 abbrev μ-loop : tie.MeasureT-loop
-μ-loop layout texts asked sum₀ x₀ k₀ sum x k = asked - k
+μ-loop texts asked sum₀ x₀ k₀ sum x k = asked - k
 
 pub read-stamps-spec : {M : Type 1} → statement M
 read-stamps-spec =
