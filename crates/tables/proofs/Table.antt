@@ -17,7 +17,7 @@ use Rattle.segments.proofs.Uses.{checked-same, steps-same, rising}
 use Rattle.tables.specs.declared.Basis.{Basis}
 use Rattle.tables.specs.declared.Acceptance.{Acceptance}
 use Rattle.tables.specs.declared.Acceptance.the-variants.{Accepted, Refused}
-use Rattle.tables.specs.Accept.{basis, acceptance, acceptedStamps, StampsOf, TableOf}
+use Rattle.tables.specs.Accept.{basis, acceptance, StampsOf, TableOf}
 use Rattle.tables.proofs.Uses.{stamps-refused, stamps-basis, stamps-facts, stamps-accepted, table-refused, table-facts, table-accepted, basis-positive}
 
 module _ (m : Measured) (p : Partitions) where

@@ -34,7 +34,6 @@ module _ (l : Layout) (p : Partitions) (b : Basis) (two : unless 1 (layoutOk l) 
       record {
         layout = layout-facts l (unless-test 1 (layoutOk l) _ b two);
         partitions = partitions-facts l p (unless-test 2 (partitionsOk l p) _ b second);
-        product = rw (← same);
         unit = rw (← same);
         total = rw (← same);
       }

@@ -38,11 +38,10 @@ module _ (m : Measured) where
       bad-partitions u =
           record { same = λ l w. rw (measured-good l m w good, checked-bad (m .product) p c v l (measured-product l m w good) (not-true (c .ok) u)) }
 
-      pub both-good : not (c .ok) ≡ false → StampsOf m p (Accepted (record { product = m .product; unit = picoseconds * m .msf; total = c .total }))
+      pub both-good : not (c .ok) ≡ false → StampsOf m p (Accepted (record { unit = picoseconds * m .msf; total = c .total }))
       unfolding acceptedStamps unless unitOf
       both-good u =
           record {
             same = λ l w.
-                let same = measured-product l m w good in
-                rw (measured-good l m w good, checked-good (m .product) p c v l same (not-false (c .ok) u), same, measured-msf l m w good, checked-total (m .product) p c v (not-false (c .ok) u));
+                rw (measured-good l m w good, checked-good (m .product) p c v l (measured-product l m w good) (not-false (c .ok) u), measured-msf l m w good, checked-total (m .product) p c v (not-false (c .ok) u));
           }

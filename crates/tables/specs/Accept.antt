@@ -2,7 +2,7 @@
 use mathlib.Core.Path.{_≡_}
 use Rattle.rules.specs.declared.Layout.{Layout}
 use Rattle.rules.specs.Answer.{Answer, answer, refused, unless}
-use Rattle.rules.specs.Layout.{layoutOk, productOf}
+use Rattle.rules.specs.Layout.{layoutOk}
 use Rattle.rules.specs.Partitions.{Partitions, partitionsOk, totalOf}
 use Rattle.rules.specs.Segments.{Segments, unitOf}
 use Rattle.rules.specs.Time.{accepted}
@@ -15,7 +15,7 @@ use Rattle.tables.specs.declared.Acceptance.the-variants.{Accepted, Refu
 
 -- the numbers of a basis
 abbrev pub basis : Layout → Partitions → Basis
-basis l p = record { product = productOf l; unit = unitOf l; total = totalOf p }
+basis l p = record { unit = unitOf l; total = totalOf p }
 
 abbrev pub acceptance : Acceptance → Answer Basis
 acceptance (Accepted b) = answer b
@@ -36,7 +36,6 @@ pub record TableOf (m : Measured) (p : Partitions) (g : Segments) (r : Acceptanc
 pub record StampsFacts (l : Layout) (p : Partitions) (b : Basis) : Type 0 where
   pub layout : LayoutFacts l
   pub partitions : PartitionsFacts l p
-  pub product : b .product ≡ productOf l
   pub unit : b .unit ≡ unitOf l
   pub total : b .total ≡ totalOf p
 

@@ -13,9 +13,8 @@ use layouts::measure;
 use rules::Layout;
 use rules::StepsBackAnswer;
 
-// Of accepted tables: P, the unit 1,000×MSF by which a rate is divided, and the total.
+// Of accepted tables: the unit 1,000×MSF by which a rate is divided, and the total.
 pub struct Basis {
-    pub product: u64,
     pub unit: u64,
     pub total: u64,
 }
@@ -39,7 +38,6 @@ pub fn accept_stamps(measured: Measured, starts: &[u64], ends: &[u64]) -> Accept
         return Acceptance::Refused(refusals::PARTITIONS);
     }
     Acceptance::Accepted(Basis {
-        product: measured.product,
         unit: PICOSECONDS * measured.msf,
         total: checked.total,
     })
