@@ -3,8 +3,8 @@ ghost use Rattle.answers.specs.Places.{Put};
 use doubles::DoubleSegment;
 use rules::CountAnswer;
 use rules::Layout;
-use rules::PrintAnswer;
 use script::words;
+use script::words::Numbers;
 
 // The most bytes of a text or a message to read.
 const MOST_BYTES: usize = 2000;
@@ -12,43 +12,11 @@ const MOST_BYTES: usize = 2000;
 // The most bytes of a buffer to print into.
 const MOST_LENT: usize = 256;
 
-enum Kind {
-    ReadText,
-    ReadStamp,
-    ReadMessage,
-    PrintCount,
-    PrintStamp,
-    TimeOf,
-    CountAt,
-    StepsBack,
-    Forward,
-    Back,
-    Other,
-}
-
-// What bytes are read as.
-enum Form {
-    Text,
-    Stamp,
-    Message,
-}
-
-// What a number is printed as.
-enum Printed {
-    Count,
-    Stamp,
-}
-
-// A segment in doubles, and the place after its three words.
-struct Segment {
-    segment: DoubleSegment,
-    next: usize,
-}
-
 // Puts the answer to the line's question at `place`, and answers the place after it. A line that asks nothing is bad.
 pub fn answer(
+    name: usize,
+    numbers: &Numbers,
     line: &[u8],
-    at: usize,
     layout: Layout,
     starts: &[u64],
     ends: &[u64],
@@ -60,15 +28,10 @@ pub fn answer(
 ) -> usize
     ensures { λ r. ⌜ Put place (now (out .entry)) r ⌝ }
 {
-    match kind_of(line, at) {
-        Kind::ReadText => read(line, at, Form::Text, layout, starts, ends, out, place),
-        Kind::ReadStamp => read(line, at, Form::Stamp, layout, starts, ends, out, place),
-        Kind::ReadMessage => read(line, at, Form::Message, layout, starts, ends, out, place),
-        Kind::PrintCount => print_line(line, at, Printed::Count, layout, starts, ends, out, place),
-        Kind::PrintStamp => print_line(line, at, Printed::Stamp, layout, starts, ends, out, place),
-        Kind::TimeOf => time_of(
-            line,
-            at,
+    if name < words::PRINT_COUNT {
+        return over_segments(
+            name,
+            numbers[0],
             layout,
             starts,
             ends,
@@ -77,75 +40,117 @@ pub fn answer(
             rates,
             out,
             place,
-        ),
-        Kind::CountAt => count_at(
-            line,
-            at,
-            layout,
-            starts,
-            ends,
-            counts,
-            times,
-            rates,
-            out,
-            place,
-        ),
-        Kind::StepsBack => steps_back(
-            line,
-            at,
-            layout,
-            starts,
-            ends,
-            counts,
-            times,
-            rates,
-            out,
-            place,
-        ),
-        Kind::Forward => forward(line, at, out, place),
-        Kind::Back => back(line, at, out, place),
-        Kind::Other => answers::put_bad(out, place),
+        );
     }
+    if name < words::FORWARD {
+        return print_number(name, numbers, layout, starts, ends, out, place);
+    }
+    if name < words::READ_TEXT {
+        return in_doubles(name, numbers, out, place);
+    }
+    if name < words::NO_NAME {
+        return read(name, line, layout, starts, ends, out, place);
+    }
+    answers::put_bad(out, place)
 }
 
-fn kind_of(line: &[u8], at: usize) -> Kind {
-    if words::is_first(line, at, b"read-text") {
-        return Kind::ReadText;
+// The questions over all tables.
+fn over_segments(
+    name: usize,
+    number: u64,
+    layout: Layout,
+    starts: &[u64],
+    ends: &[u64],
+    counts: &[u64],
+    times: &[i64],
+    rates: &[u64],
+    out: &mut [u8],
+    place: usize,
+) -> usize
+    ensures { λ r. ⌜ Put place (now (out .entry)) r ⌝ }
+{
+    if name == words::STEPS_BACK {
+        return answers::put_steps_back(
+            out,
+            place,
+            tables::steps_back(layout, starts, ends, counts, times, rates),
+        );
     }
-    if words::is_first(line, at, b"read-stamp") {
-        return Kind::ReadStamp;
+    if name == words::TIME_OF {
+        return answers::put_time(
+            out,
+            place,
+            time::time_of(layout, starts, ends, counts, times, rates, number),
+        );
     }
-    if words::is_first(line, at, b"read-message") {
-        return Kind::ReadMessage;
-    }
-    if words::is_first(line, at, b"print-count") {
-        return Kind::PrintCount;
-    }
-    if words::is_first(line, at, b"print-stamp") {
-        return Kind::PrintStamp;
-    }
-    if words::is_first(line, at, b"time-of") {
-        return Kind::TimeOf;
-    }
-    if words::is_first(line, at, b"count-at") {
-        return Kind::CountAt;
-    }
-    if words::is_first(line, at, b"steps-back") {
-        return Kind::StepsBack;
-    }
-    if words::is_first(line, at, b"forward") {
-        return Kind::Forward;
-    }
-    if words::is_first(line, at, b"back") {
-        return Kind::Back;
-    }
-    Kind::Other
+    answers::put_count(
+        out,
+        place,
+        time::count_at(
+            layout,
+            starts,
+            ends,
+            counts,
+            times,
+            rates,
+            signed::from_ordinal(number),
+        ),
+    )
 }
 
+// A count or a stamp, into a buffer that is filled with one byte.
+fn print_number(
+    name: usize,
+    numbers: &Numbers,
+    layout: Layout,
+    starts: &[u64],
+    ends: &[u64],
+    out: &mut [u8],
+    place: usize,
+) -> usize
+    ensures { λ r. ⌜ Put place (now (out .entry)) r ⌝ }
+{
+    if 255 < numbers[1] {
+        return answers::put_bad(out, place);
+    }
+    if (MOST_LENT as u64) < numbers[2] {
+        return answers::put_bad(out, place);
+    }
+    let size = numbers[2] as usize;
+    let mut buffer = [numbers[1] as u8; MOST_LENT];
+    let lent = &mut buffer[0..size];
+    if name == words::PRINT_COUNT {
+        let answer = print::print_count(layout, numbers[0], lent);
+        return answers::put_print(out, place, answer, lent);
+    }
+    let answer = print::print_stamp(layout, starts, ends, numbers[0], lent);
+    answers::put_print(out, place, answer, lent)
+}
+
+// The double form, forward or back.
+fn in_doubles(name: usize, numbers: &Numbers, out: &mut [u8], place: usize) -> usize
+    ensures { λ r. ⌜ Put place (now (out .entry)) r ⌝ }
+{
+    let segment = DoubleSegment {
+        count: words::double_of(numbers[0]),
+        time: words::double_of(numbers[1]),
+        rate: words::double_of(numbers[2]),
+    };
+    if name == words::FORWARD {
+        return answers::put_double(
+            out,
+            place,
+            doubles::forward(segment, numbers[3], numbers[4]),
+        );
+    }
+    let given = words::double_of(numbers[4]);
+    answers::put_double(out, place, doubles::back(segment, numbers[3], given))
+}
+
+// A text, a stamp or a message.
 fn read(
+    name: usize,
     line: &[u8],
-    at: usize,
-    form: Form,
     layout: Layout,
     starts: &[u64],
     ends: &[u64],
@@ -155,203 +160,23 @@ fn read(
     ensures { λ r. ⌜ Put place (now (out .entry)) r ⌝ }
 {
     let mut bytes = [0u8; MOST_BYTES];
-    let length = words::hex_bytes(line, at, &mut bytes);
+    let length = words::hex_bytes(line, &mut bytes);
     if MOST_BYTES < length {
         return answers::put_bad(out, place);
     }
     answers::put_count(
         out,
         place,
-        read_as(form, layout, starts, ends, &bytes[0..length]),
+        read_as(name, layout, starts, ends, &bytes[0..length]),
     )
 }
 
-fn read_as(form: Form, layout: Layout, starts: &[u64], ends: &[u64], bytes: &[u8]) -> CountAnswer {
-    match form {
-        Form::Text => text::read_text(layout, bytes),
-        Form::Stamp => text::read_stamp(layout, starts, ends, bytes),
-        Form::Message => message::read_message(layout, starts, ends, bytes),
+fn read_as(name: usize, layout: Layout, starts: &[u64], ends: &[u64], bytes: &[u8]) -> CountAnswer {
+    if name == words::READ_TEXT {
+        return text::read_text(layout, bytes);
     }
-}
-
-fn print_line(
-    line: &[u8],
-    at: usize,
-    printed: Printed,
-    layout: Layout,
-    starts: &[u64],
-    ends: &[u64],
-    out: &mut [u8],
-    place: usize,
-) -> usize
-    ensures { λ r. ⌜ Put place (now (out .entry)) r ⌝ }
-{
-    let number = words::decimal(line, at);
-    let fill = words::decimal_up_to(line, number.next, 255);
-    let length = words::decimal_up_to(line, fill.next, MOST_LENT as u64);
-    if !words::ends(line, length.next) {
-        return answers::put_bad(out, place);
+    if name == words::READ_STAMP {
+        return text::read_stamp(layout, starts, ends, bytes);
     }
-    let size = length.value as usize;
-    let mut lent = [fill.value as u8; MOST_LENT];
-    print_lent(
-        printed,
-        layout,
-        starts,
-        ends,
-        number.value,
-        &mut lent[0..size],
-        out,
-        place,
-    )
-}
-
-fn print_lent(
-    printed: Printed,
-    layout: Layout,
-    starts: &[u64],
-    ends: &[u64],
-    number: u64,
-    lent: &mut [u8],
-    out: &mut [u8],
-    place: usize,
-) -> usize
-    ensures { λ r. ⌜ Put place (now (out .entry)) r ⌝ }
-{
-    let answer = print_as(printed, layout, starts, ends, number, lent);
-    answers::put_print(out, place, answer, lent)
-}
-
-fn print_as(
-    printed: Printed,
-    layout: Layout,
-    starts: &[u64],
-    ends: &[u64],
-    number: u64,
-    lent: &mut [u8],
-) -> PrintAnswer {
-    match printed {
-        Printed::Count => print::print_count(layout, number, lent),
-        Printed::Stamp => print::print_stamp(layout, starts, ends, number, lent),
-    }
-}
-
-fn time_of(
-    line: &[u8],
-    at: usize,
-    layout: Layout,
-    starts: &[u64],
-    ends: &[u64],
-    counts: &[u64],
-    times: &[i64],
-    rates: &[u64],
-    out: &mut [u8],
-    place: usize,
-) -> usize
-    ensures { λ r. ⌜ Put place (now (out .entry)) r ⌝ }
-{
-    let encoded = words::decimal(line, at);
-    if !words::ends(line, encoded.next) {
-        return answers::put_bad(out, place);
-    }
-    answers::put_time(
-        out,
-        place,
-        time::time_of(layout, starts, ends, counts, times, rates, encoded.value),
-    )
-}
-
-fn count_at(
-    line: &[u8],
-    at: usize,
-    layout: Layout,
-    starts: &[u64],
-    ends: &[u64],
-    counts: &[u64],
-    times: &[i64],
-    rates: &[u64],
-    out: &mut [u8],
-    place: usize,
-) -> usize
-    ensures { λ r. ⌜ Put place (now (out .entry)) r ⌝ }
-{
-    let time = words::time(line, at);
-    if !words::ends(line, time.next) {
-        return answers::put_bad(out, place);
-    }
-    answers::put_count(
-        out,
-        place,
-        time::count_at(layout, starts, ends, counts, times, rates, time.value),
-    )
-}
-
-fn steps_back(
-    line: &[u8],
-    at: usize,
-    layout: Layout,
-    starts: &[u64],
-    ends: &[u64],
-    counts: &[u64],
-    times: &[i64],
-    rates: &[u64],
-    out: &mut [u8],
-    place: usize,
-) -> usize
-    ensures { λ r. ⌜ Put place (now (out .entry)) r ⌝ }
-{
-    if !words::ends(line, at) {
-        return answers::put_bad(out, place);
-    }
-    answers::put_steps_back(
-        out,
-        place,
-        tables::steps_back(layout, starts, ends, counts, times, rates),
-    )
-}
-
-fn forward(line: &[u8], at: usize, out: &mut [u8], place: usize) -> usize
-    ensures { λ r. ⌜ Put place (now (out .entry)) r ⌝ }
-{
-    let segment = segment_words(line, at);
-    let msf = words::decimal(line, segment.next);
-    let given = words::decimal(line, msf.next);
-    if !words::ends(line, given.next) {
-        return answers::put_bad(out, place);
-    }
-    answers::put_double(
-        out,
-        place,
-        doubles::forward(segment.segment, msf.value, given.value),
-    )
-}
-
-fn back(line: &[u8], at: usize, out: &mut [u8], place: usize) -> usize
-    ensures { λ r. ⌜ Put place (now (out .entry)) r ⌝ }
-{
-    let segment = segment_words(line, at);
-    let msf = words::decimal(line, segment.next);
-    let given = words::double_bits(line, msf.next);
-    if !words::ends(line, given.next) {
-        return answers::put_bad(out, place);
-    }
-    answers::put_double(
-        out,
-        place,
-        doubles::back(segment.segment, msf.value, given.value),
-    )
-}
-
-fn segment_words(line: &[u8], at: usize) -> Segment {
-    let count = words::double_bits(line, at);
-    let time = words::double_bits(line, count.next);
-    let rate = words::double_bits(line, time.next);
-    Segment {
-        segment: DoubleSegment {
-            count: count.value,
-            time: time.value,
-            rate: rate.value,
-        },
-        next: rate.next,
-    }
+    message::read_message(layout, starts, ends, bytes)
 }

@@ -9,9 +9,7 @@ use input::LineBuffer;
 use libc::STDOUT_FILENO;
 use script::entries;
 use script::entries::COUNTS;
-use script::entries::Change;
 use script::entries::ENDS;
-use script::entries::LayoutNumbers;
 use script::entries::Lists;
 use script::entries::MOST_ENTRIES;
 use script::entries::MOST_NUMBERS;
@@ -20,6 +18,7 @@ use script::entries::STARTS;
 use script::entries::Sizes;
 use script::entries::TimeList;
 use script::words;
+use script::words::Numbers;
 
 const OUTPUT: usize = 65536;
 
@@ -78,7 +77,7 @@ fn write(out: &[u8], count: usize) {
 fn take_line(
     input: Input,
     buffer: &LineBuffer,
-    layout: &mut LayoutNumbers,
+    layout: &mut Numbers,
     sizes: &mut Sizes,
     lists: &mut Lists,
     times: &mut TimeList,
@@ -95,18 +94,32 @@ fn take_line(
     if words::passed_over(line) {
         return place;
     }
-    let at = words::first_end(line);
-    match entries::take(line, at, layout, sizes, lists, times) {
-        Change::Made => place,
-        Change::Bad => answers::put_bad(out, place),
-        Change::NoChange => ask(line, at, layout, sizes, lists, times, out, place),
+    let mut numbers = [0u64; 22];
+    let name = words::read(line, &mut numbers);
+    if name < words::STEPS_BACK {
+        if entries::take(name, &numbers, layout, sizes, lists, times) {
+            return place;
+        }
+        return answers::put_bad(out, place);
     }
+    ask(
+        name,
+        &numbers,
+        line,
+        layout,
+        sizes,
+        lists,
+        times,
+        out,
+        place,
+    )
 }
 
 fn ask(
+    name: usize,
+    numbers: &Numbers,
     line: &[u8],
-    at: usize,
-    layout: &LayoutNumbers,
+    layout: &Numbers,
     sizes: &Sizes,
     lists: &[u64],
     times: &[i64],
@@ -114,8 +127,9 @@ fn ask(
     place: usize,
 ) -> usize {
     questions::answer(
+        name,
+        numbers,
         line,
-        at,
         entries::layout_of(layout),
         entries::held(lists, STARTS, sizes),
         entries::held(lists, ENDS, sizes),

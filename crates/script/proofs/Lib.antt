@@ -1,4 +1,5 @@
 -- The laws that the proofs cite.
 mod Bits
 mod Changes
+mod Digits
 mod Lines

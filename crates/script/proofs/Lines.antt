@@ -1,5 +1,5 @@
--- A line's first byte and its first word.
-use Prim.Native.Nat.{ℕ, _-_}
+-- A line's first byte and its name.
+use Prim.Native.Nat.{ℕ, _+_, _-_}
 use mathlib.Core.Path.{_≡_, refl, sym, subst}
 use mathlib.Core.Bool.{true, false, true≢false}
 use mathlib.Core.List.{List, [], _∷_}
@@ -24,8 +24,8 @@ by-first (first ∷ rest) h = refl
 pub no-word : (s t : List ℕ) → false ≡ true → s ≡ t
 no-word s t h = absurd (true≢false (sym h))
 
-pub first-word : (s t : List ℕ) (n : ℕ) → take (n - 0) (drop 0 s) ≡ t → take n s ≡ t
-first-word s t n h = subst (λ (m : ℕ). take m s ≡ t) all h
+pub name-here : (word names : List ℕ) (from : ℕ) → word ≡ take (from + length word - from) (drop from names) → word ≡ take (length word) (drop from names)
+name-here word names from h = subst (λ (m : ℕ). word ≡ take m (drop from names)) all h
   where
-    all : n - 0 ≡ n
+    all : from + length word - from ≡ length word
     all = omega arith

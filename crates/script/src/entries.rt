@@ -3,7 +3,10 @@ ghost use Prim.Native.Nat.{_<_, _≤_};
 ghost use mathlib.Core.Path.{_≡_};
 ghost use lib.ListN.{length, getD};
 ghost use Rattle.script.specs.Changes.{Keeps};
-use crate::words;
+use crate::words::LAYOUT;
+use crate::words::Numbers;
+use crate::words::PARTITIONS;
+use crate::words::TIME;
 use rules::Layout;
 
 // The most entries of a list.
@@ -12,8 +15,6 @@ pub const MOST_ENTRIES: usize = 10001;
 // Those of the four lists of unsigned numbers.
 pub const MOST_NUMBERS: usize = 4 * MOST_ENTRIES;
 
-// The numbers of a layout's line.
-pub type LayoutNumbers = [u64; 22];
 // Starts, ends, counts and rates, one list behind the other.
 pub type Lists = [u64; MOST_NUMBERS];
 
@@ -21,7 +22,7 @@ pub type TimeList = [i64; MOST_ENTRIES];
 // How many entries each list holds.
 pub type Sizes = [usize; 5];
 
-// The lists' numbers.
+// The lists' numbers, which are those of their lines' names.
 pub const STARTS: usize = 0;
 
 pub const ENDS: usize = 1;
@@ -32,155 +33,85 @@ pub const RATES: usize = 3;
 
 pub const TIMES: usize = 4;
 
-// What a line does to the tables: `NoChange` where it is none of their lines.
-pub enum Change {
-    Made,
-    Bad,
-    NoChange,
-}
-
-enum Kind {
-    Layout,
-    Partitions,
-    Start,
-    End,
-    Segments,
-    Count,
-    Time,
-    Rate,
-    Other,
-}
-
+// Changes the tables as a line of theirs says, and answers whether it could.
 pub fn take(
-    line: &[u8],
-    at: usize,
-    layout: &mut LayoutNumbers,
+    name: usize,
+    numbers: &Numbers,
+    layout: &mut Numbers,
     sizes: &mut Sizes,
     lists: &mut Lists,
     times: &mut TimeList,
-) -> Change
+) -> bool
     ensures { λ r. ⌜ Keeps r (now (layout .entry)) (now (layout .exit)) ⌝ }
     ensures { λ r. ⌜ Keeps r (now (sizes .entry)) (now (sizes .exit)) ⌝ }
     ensures { λ r. ⌜ Keeps r (now (lists .entry)) (now (lists .exit)) ⌝ }
     ensures { λ r. ⌜ Keeps r (now (times .entry)) (now (times .exit)) ⌝ }
 {
-    match kind_of(line, at) {
-        Kind::Layout => set_layout(line, at, layout),
-        Kind::Partitions => no_partitions(line, at, sizes),
-        Kind::Start => add(line, at, sizes, STARTS, lists),
-        Kind::End => add(line, at, sizes, ENDS, lists),
-        Kind::Segments => no_segments(line, at, sizes),
-        Kind::Count => add(line, at, sizes, COUNTS, lists),
-        Kind::Time => add_time(line, at, sizes, times),
-        Kind::Rate => add(line, at, sizes, RATES, lists),
-        Kind::Other => Change::NoChange,
+    if name < TIME {
+        return add(numbers[0], sizes, name, lists);
     }
+    if name == TIME {
+        return add_time(numbers[0], sizes, times);
+    }
+    if name == LAYOUT {
+        return set_layout(numbers, layout);
+    }
+    clear(name, sizes)
 }
 
-fn kind_of(line: &[u8], at: usize) -> Kind {
-    if words::is_first(line, at, b"start") {
-        return Kind::Start;
-    }
-    if words::is_first(line, at, b"end") {
-        return Kind::End;
-    }
-    if words::is_first(line, at, b"count") {
-        return Kind::Count;
-    }
-    if words::is_first(line, at, b"time") {
-        return Kind::Time;
-    }
-    if words::is_first(line, at, b"rate") {
-        return Kind::Rate;
-    }
-    if words::is_first(line, at, b"partitions") {
-        return Kind::Partitions;
-    }
-    if words::is_first(line, at, b"segments") {
-        return Kind::Segments;
-    }
-    if words::is_first(line, at, b"layout") {
-        return Kind::Layout;
-    }
-    Kind::Other
-}
-
-fn add(line: &[u8], at: usize, sizes: &mut Sizes, list: usize, lists: &mut Lists) -> Change
+fn add(number: u64, sizes: &mut Sizes, list: usize, lists: &mut Lists) -> bool
     requires { ⌜ list < 4 ⌝ }
     ensures { λ r. ⌜ Keeps r (now (sizes .entry)) (now (sizes .exit)) ⌝ }
     ensures { λ r. ⌜ Keeps r (now (lists .entry)) (now (lists .exit)) ⌝ }
 {
-    let number = words::decimal(line, at);
-    if !words::ends(line, number.next) {
-        return Change::Bad;
-    }
     let size = sizes[list];
     if MOST_ENTRIES <= size {
-        return Change::Bad;
+        return false;
     }
-    lists[list * MOST_ENTRIES + size] = number.value;
+    lists[list * MOST_ENTRIES + size] = number;
     sizes[list] = size + 1;
-    Change::Made
+    true
 }
 
-fn add_time(line: &[u8], at: usize, sizes: &mut Sizes, times: &mut TimeList) -> Change
+fn add_time(ordinal: u64, sizes: &mut Sizes, times: &mut TimeList) -> bool
     ensures { λ r. ⌜ Keeps r (now (sizes .entry)) (now (sizes .exit)) ⌝ }
     ensures { λ r. ⌜ Keeps r (now (times .entry)) (now (times .exit)) ⌝ }
 {
-    let time = words::time(line, at);
-    if !words::ends(line, time.next) {
-        return Change::Bad;
-    }
     let size = sizes[TIMES];
     if times.len() <= size {
-        return Change::Bad;
+        return false;
     }
-    let value = time.value;
-    times[size] = value;
+    times[size] = signed::from_ordinal(ordinal);
     sizes[TIMES] = size + 1;
-    Change::Made
+    true
 }
 
-fn no_partitions(line: &[u8], at: usize, sizes: &mut Sizes) -> Change
-    ensures { λ r. ⌜ Keeps r (now (sizes .entry)) (now (sizes .exit)) ⌝ }
+fn set_layout(numbers: &Numbers, layout: &mut Numbers) -> bool
+    ensures { λ r. ⌜ Keeps r (now (layout .entry)) (now (layout .exit)) ⌝ }
 {
-    if !words::ends(line, at) {
-        return Change::Bad;
+    if 255 < numbers[1] {
+        return false;
     }
-    sizes[STARTS] = 0;
-    sizes[ENDS] = 0;
-    Change::Made
+    *layout = *numbers;
+    true
 }
 
-fn no_segments(line: &[u8], at: usize, sizes: &mut Sizes) -> Change
+fn clear(name: usize, sizes: &mut Sizes) -> bool
     ensures { λ r. ⌜ Keeps r (now (sizes .entry)) (now (sizes .exit)) ⌝ }
 {
-    if !words::ends(line, at) {
-        return Change::Bad;
+    if name == PARTITIONS {
+        sizes[STARTS] = 0;
+        sizes[ENDS] = 0;
+        return true;
     }
     sizes[COUNTS] = 0;
     sizes[TIMES] = 0;
     sizes[RATES] = 0;
-    Change::Made
-}
-
-fn set_layout(line: &[u8], at: usize, layout: &mut LayoutNumbers) -> Change
-    ensures { λ r. ⌜ Keeps r (now (layout .entry)) (now (layout .exit)) ⌝ }
-{
-    let mut numbers = [0u64; 22];
-    let next = words::decimals(line, at, &mut numbers);
-    if !words::ends(line, next) {
-        return Change::Bad;
-    }
-    if 255 < numbers[1] {
-        return Change::Bad;
-    }
-    *layout = numbers;
-    Change::Made
+    true
 }
 
 // The layout that the line's numbers say.
-pub fn layout_of(numbers: &LayoutNumbers) -> Layout
+pub fn layout_of(numbers: &Numbers) -> Layout
     ensures { λ r. ⌜ r .n ≡ getD (now (numbers .entry)) 0 0 ⌝ }
 {
     Layout {
@@ -191,7 +122,7 @@ pub fn layout_of(numbers: &LayoutNumbers) -> Layout
     }
 }
 
-fn ten(numbers: &LayoutNumbers, from: usize) -> [u64; 10]
+fn ten(numbers: &Numbers, from: usize) -> [u64; 10]
     requires { ⌜ from ≤ 12 ⌝ }
 {
     let mut slots = [0u64; 10];

@@ -1,14 +1,15 @@
-use Prim.Native.Nat.{_-_, _≤_}
 use borrow.Author.Needs.{needs}
+use Prim.Native.Nat.{_-_, _≤_}
 use lib.ListN.{length}
+use Rattle.script.proofs.Digits.{times-fits, plus-fits, within-limit}
 use Rattle.script.proofs.words.digits.Statement.{statement}
 use Rattle.script.proofs.words.digits.Tie as tie
 
 abbrev Inv-loop : tie.InvT-loop
-Inv-loop line from value₀ i₀ value i = from ≤ i
+Inv-loop line from base limit least value₀ i₀ value i = (from ≤ i) × (value ≤ limit)
 
 abbrev μ-loop : tie.MeasureT-loop
-μ-loop line from value₀ i₀ value i = length line - i
+μ-loop line from base limit least value₀ i₀ value i = length line - i
 
 pub digits-spec : {M : Type 1} → statement M
 digits-spec =
@@ -16,18 +17,19 @@ digits-spec =
     (tie.spec
     Inv-loop
     μ-loop
-    (λ c. search needs)
-    (λ c. search needs)
-    (λ c κs. search needs)
-    (λ c κs. search needs)
-    (λ c. search needs)
-    (λ c. search needs)
-    (λ c κs. search needs)
-    (λ c. search needs)
-    (λ c. search needs)
-    (λ c. search needs)
-    (λ c. search needs)
-    (λ c. search needs)
-    (λ c. search needs)
-    (λ c κs. search needs)
-    (λ c. search needs))
+    (λ c. search (times-fits, plus-fits, within-limit, needs))
+    (λ c. search (times-fits, plus-fits, within-limit, needs))
+    (λ c κs. search (times-fits, plus-fits, within-limit, needs))
+    (λ c κs. search (times-fits, plus-fits, within-limit, needs))
+    (λ c. search (times-fits, plus-fits, within-limit, needs))
+    (λ c. search (times-fits, plus-fits, within-limit, needs))
+    (λ c. search (times-fits, plus-fits, within-limit, needs))
+    (λ c κs. search (times-fits, plus-fits, within-limit, needs))
+    (λ c. search (times-fits, plus-fits, within-limit, needs))
+    (λ c. search (times-fits, plus-fits, within-limit, needs))
+    (λ c. search (times-fits, plus-fits, within-limit, needs))
+    (λ c. search (times-fits, plus-fits, within-limit, needs))
+    (λ c. search (times-fits, plus-fits, within-limit, needs))
+    (λ c. search (times-fits, plus-fits, within-limit, needs))
+    (λ c κs. search (times-fits, plus-fits, within-limit, needs))
+    (λ c. search (times-fits, plus-fits, within-limit, needs)))

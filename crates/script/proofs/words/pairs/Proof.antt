@@ -1,15 +1,15 @@
-use Prim.Native.Nat.{_+_, _-_, _*_, _≤_}
-use mathlib.Core.Path.{_≡_}
 use borrow.Author.Needs.{needs}
+use Prim.Native.Nat.{_-_, _*_, _≤_}
+use mathlib.Core.Path.{_≡_}
 use lib.ListN.{length}
 use Rattle.script.proofs.words.pairs.Statement.{statement}
 use Rattle.script.proofs.words.pairs.Tie as tie
 
 abbrev Inv-loop : tie.InvT-loop
-Inv-loop word out₀ i₀ out i = (2 * i ≤ length word + 1) × (i ≤ length out₀) × (length out ≡ length out₀)
+Inv-loop word out₀ n i₀ out i = (i ≤ n) × (2 * n ≤ length word) × (n ≤ length out₀) × (length out ≡ length out₀)
 
 abbrev μ-loop : tie.MeasureT-loop
-μ-loop word out₀ i₀ out i = length word + 1 - 2 * i
+μ-loop word out₀ n i₀ out i = n - i
 
 pub pairs-spec : {M : Type 1} → statement M
 pairs-spec =
@@ -19,10 +19,16 @@ pairs-spec =
     μ-loop
     (λ c. search needs)
     (λ c. search needs)
+    (λ c. search needs)
+    (λ c. search needs)
+    (λ c. search needs)
+    (λ c. search needs)
+    (λ c. search needs)
+    (λ c. search needs)
+    (λ c. search needs)
+    (λ c. search needs)
+    (λ c. search needs)
     (λ c κs. search needs)
-    (λ c. search needs)
-    (λ c. search needs)
-    (λ c. search needs)
     (λ c. search needs)
     (λ c. search needs)
     (λ c. search needs)
