@@ -119,14 +119,10 @@ fn sound_tables_are_accepted() {
     assert!(backs > 1_000);
 }
 
-/// Where the stored samples are there, they are what the generator gives.
 #[test]
 fn stored_samples_are_current() {
-    let read = |name: &str| std::fs::read(["../crates/cases/", name].concat()).unwrap_or_default();
-    let (stored_script, stored_answers) = (read("stdin"), read("stdout"));
-    if !stored_script.is_empty() || !stored_answers.is_empty() {
-        let script = script(STORED_SEED, STORED_COUNT);
-        assert!(stored_script == script, "crates/cases/stdin is not the generator's script");
-        assert!(stored_answers == answers(&script), "crates/cases/stdout is not the library's answers");
-    }
+    let read = |name: &str| std::fs::read(["../crates/cases/", name].concat()).unwrap();
+    let script = script(STORED_SEED, STORED_COUNT);
+    assert!(read("stdin") == script, "crates/cases/stdin is not the generator's script");
+    assert!(read("stdout") == answers(&script), "crates/cases/stdout is not the library's answers");
 }

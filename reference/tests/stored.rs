@@ -1,0 +1,27 @@
+//! What the proved programs are held to is what this library answers.
+
+use reference::script::answers;
+use reference::stamp_program;
+use std::process::Command;
+
+fn stored(program: &str, name: &str) -> Vec<u8> {
+    std::fs::read(["../crates/", program, "/", name].concat()).unwrap()
+}
+
+#[test]
+fn stamps() {
+    assert!(stored("stamp", "stdout") == stamp_program(&stored("stamp", "stdin")));
+}
+
+/// The script and its answers are typed from document 01.
+#[test]
+fn examples() {
+    assert!(stored("examples", "stdout") == answers(&stored("examples", "stdin")));
+}
+
+#[test]
+fn checksums() {
+    let bench = Command::new(env!("CARGO_BIN_EXE_bench")).output().unwrap();
+    assert!(bench.status.success());
+    assert!(stored("bench", "stdout") == bench.stdout);
+}
