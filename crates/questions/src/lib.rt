@@ -1,4 +1,5 @@
 // The questions of a script, each over one public call.
+ghost use Prim.Native.Nat.{_≤_};
 ghost use Rattle.answers.specs.Places.{Put};
 use doubles::DoubleSegment;
 use rules::CountAnswer;
@@ -12,7 +13,8 @@ const MOST_BYTES: usize = 2000;
 // The most bytes of a buffer to print into.
 const MOST_LENT: usize = 256;
 
-// Puts the answer to the line's question at `place`, and answers the place after it. A line that asks nothing is bad.
+// Puts the answer to the line's question at `place`, and answers the place after it. The name is none of the tables'; a line
+// without a name is bad.
 pub fn answer(
     name: usize,
     numbers: &Numbers,
@@ -26,6 +28,7 @@ pub fn answer(
     out: &mut [u8],
     place: usize,
 ) -> usize
+    requires { ⌜ 8 ≤ name ⌝ }
     ensures { λ r. ⌜ Put place (now (out .entry)) r ⌝ }
 {
     if name < words::PRINT_COUNT {

@@ -1,5 +1,7 @@
 // Runs a script of cases: reads it from standard input, and answers each question on a line of standard output.
 // The programs that run one are this and nothing more.
+ghost use Prim.Native.Nat.{_≤_};
+
 mod input;
 
 use input::CHUNK;
@@ -125,7 +127,9 @@ fn ask(
     times: &[i64],
     out: &mut [u8],
     place: usize,
-) -> usize {
+) -> usize
+    requires { ⌜ 8 ≤ name ⌝ }
+{
     questions::answer(
         name,
         numbers,

@@ -33,7 +33,7 @@ pub const RATES: usize = 3;
 
 pub const TIMES: usize = 4;
 
-// Changes the tables as a line of theirs says, and answers whether it could.
+// Changes the tables as a line of theirs says, and answers whether it could. The name is one of theirs.
 pub fn take(
     name: usize,
     numbers: &Numbers,
@@ -42,6 +42,7 @@ pub fn take(
     lists: &mut Lists,
     times: &mut TimeList,
 ) -> bool
+    requires { ⌜ name < 8 ⌝ }
     ensures { λ r. ⌜ Keeps r (now (layout .entry)) (now (layout .exit)) ⌝ }
     ensures { λ r. ⌜ Keeps r (now (sizes .entry)) (now (sizes .exit)) ⌝ }
     ensures { λ r. ⌜ Keeps r (now (lists .entry)) (now (lists .exit)) ⌝ }
