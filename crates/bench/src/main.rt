@@ -1,7 +1,6 @@
 // The benchmark's questions, asked of the proved calls. Without an argument it asks few of each and prints their checksums; with
 // one it asks many and prints nanoseconds a call behind each checksum. The reference has the same questions.
 mod rows;
-mod stamps;
 
 use bench_report::often;
 
@@ -9,7 +8,7 @@ const MOST_ROWS: usize = 10000;
 
 fn main() {
     let timed = 1 < os::arg_count();
-    stamps::bench(timed);
+    bench_stamps::bench(timed);
     let mut counts = [0u64; MOST_ROWS];
     let mut times = [0i64; MOST_ROWS];
     let mut rates = [0u64; MOST_ROWS];

@@ -4,8 +4,7 @@ ghost use Rattle.answers.specs.Places.{Put};
 use doubles::DoubleSegment;
 use rules::CountAnswer;
 use rules::Layout;
-use script::words;
-use script::words::Numbers;
+use script_words::Numbers;
 
 // The most bytes of a text or a message to read.
 const MOST_BYTES: usize = 2000;
@@ -31,7 +30,7 @@ pub fn answer(
     requires { ⌜ 8 ≤ name ⌝ }
     ensures { λ r. ⌜ Put place (now (out .entry)) r ⌝ }
 {
-    if name < words::PRINT_COUNT {
+    if name < script_words::PRINT_COUNT {
         return over_segments(
             name,
             numbers[0],
@@ -45,13 +44,13 @@ pub fn answer(
             place,
         );
     }
-    if name < words::FORWARD {
+    if name < script_words::FORWARD {
         return print_number(name, numbers, layout, starts, ends, out, place);
     }
-    if name < words::READ_TEXT {
+    if name < script_words::READ_TEXT {
         return in_doubles(name, numbers, out, place);
     }
-    if name < words::NO_NAME {
+    if name < script_words::NO_NAME {
         return read(name, line, layout, starts, ends, out, place);
     }
     answers::put_bad(out, place)
@@ -72,14 +71,14 @@ fn over_segments(
 ) -> usize
     ensures { λ r. ⌜ Put place (now (out .entry)) r ⌝ }
 {
-    if name == words::STEPS_BACK {
+    if name == script_words::STEPS_BACK {
         return answers::put_steps_back(
             out,
             place,
             tables::steps_back(layout, starts, ends, counts, times, rates),
         );
     }
-    if name == words::TIME_OF {
+    if name == script_words::TIME_OF {
         return answers::put_time(
             out,
             place,
@@ -122,7 +121,7 @@ fn print_number(
     let size = numbers[2] as usize;
     let mut buffer = [numbers[1] as u8; MOST_LENT];
     let lent = &mut buffer[0..size];
-    if name == words::PRINT_COUNT {
+    if name == script_words::PRINT_COUNT {
         let answer = print::print_count(layout, numbers[0], lent);
         return answers::put_print(out, place, answer, lent);
     }
@@ -135,18 +134,18 @@ fn in_doubles(name: usize, numbers: &Numbers, out: &mut [u8], place: usize) -> u
     ensures { λ r. ⌜ Put place (now (out .entry)) r ⌝ }
 {
     let segment = DoubleSegment {
-        count: words::double_of(numbers[0]),
-        time: words::double_of(numbers[1]),
-        rate: words::double_of(numbers[2]),
+        count: script_words::double_of(numbers[0]),
+        time: script_words::double_of(numbers[1]),
+        rate: script_words::double_of(numbers[2]),
     };
-    if name == words::FORWARD {
+    if name == script_words::FORWARD {
         return answers::put_double(
             out,
             place,
             doubles::forward(segment, numbers[3], numbers[4]),
         );
     }
-    let given = words::double_of(numbers[4]);
+    let given = script_words::double_of(numbers[4]);
     answers::put_double(out, place, doubles::back(segment, numbers[3], given))
 }
 
@@ -163,7 +162,7 @@ fn read(
     ensures { λ r. ⌜ Put place (now (out .entry)) r ⌝ }
 {
     let mut bytes = [0u8; MOST_BYTES];
-    let length = words::hex_bytes(line, &mut bytes);
+    let length = script_words::hex_bytes(line, &mut bytes);
     if MOST_BYTES < length {
         return answers::put_bad(out, place);
     }
@@ -175,10 +174,10 @@ fn read(
 }
 
 fn read_as(name: usize, layout: Layout, starts: &[u64], ends: &[u64], bytes: &[u8]) -> CountAnswer {
-    if name == words::READ_TEXT {
+    if name == script_words::READ_TEXT {
         return text::read_text(layout, bytes);
     }
-    if name == words::READ_STAMP {
+    if name == script_words::READ_STAMP {
         return text::read_stamp(layout, starts, ends, bytes);
     }
     message::read_message(layout, starts, ends, bytes)

@@ -1,26 +1,21 @@
 // Runs a script of cases: reads it from standard input, and answers each question on a line of standard output.
 // The programs that run one are this and nothing more.
 ghost use Prim.Native.Nat.{_≤_};
-
-mod input;
-
-use input::CHUNK;
-use input::Input;
-use input::LONGEST_LINE;
-use input::LineBuffer;
 use libc::STDOUT_FILENO;
-use script::entries;
-use script::entries::COUNTS;
-use script::entries::ENDS;
-use script::entries::Lists;
-use script::entries::MOST_ENTRIES;
-use script::entries::MOST_NUMBERS;
-use script::entries::RATES;
-use script::entries::STARTS;
-use script::entries::Sizes;
-use script::entries::TimeList;
-use script::words;
-use script::words::Numbers;
+use script_input::CHUNK;
+use script_input::Input;
+use script_input::LONGEST_LINE;
+use script_input::LineBuffer;
+use script_tables::COUNTS;
+use script_tables::ENDS;
+use script_tables::Lists;
+use script_tables::MOST_ENTRIES;
+use script_tables::MOST_NUMBERS;
+use script_tables::RATES;
+use script_tables::STARTS;
+use script_tables::Sizes;
+use script_tables::TimeList;
+use script_words::Numbers;
 
 const OUTPUT: usize = 65536;
 
@@ -38,11 +33,11 @@ pub fn run() {
     let mut line = [0u8; LONGEST_LINE + 1];
     let mut out = [0u8; OUTPUT];
     let mut place = 0;
-    let mut input = input::start();
+    let mut input = script_input::start();
     let mut turns = u64::MAX;
     while turns > 0 && input.open {
         place = written(input, &out, place);
-        input = input::next(input, &mut chunk, &mut line);
+        input = script_input::next(input, &mut chunk, &mut line);
         place = take_line(
             input,
             &line,
@@ -92,14 +87,14 @@ fn take_line(
     if LONGEST_LINE < input.kept {
         return answers::put_bad(out, place);
     }
-    let line = input::kept_line(buffer, input.kept);
-    if words::passed_over(line) {
+    let line = script_input::kept_line(buffer, input.kept);
+    if script_words::passed_over(line) {
         return place;
     }
     let mut numbers = [0u64; 22];
-    let name = words::read(line, &mut numbers);
-    if name < words::STEPS_BACK {
-        if entries::take(name, &numbers, layout, sizes, lists, times) {
+    let name = script_words::read(line, &mut numbers);
+    if name < script_words::STEPS_BACK {
+        if script_tables::take(name, &numbers, layout, sizes, lists, times) {
             return place;
         }
         return answers::put_bad(out, place);
@@ -134,12 +129,12 @@ fn ask(
         name,
         numbers,
         line,
-        entries::layout_of(layout),
-        entries::held(lists, STARTS, sizes),
-        entries::held(lists, ENDS, sizes),
-        entries::held(lists, COUNTS, sizes),
-        entries::held_times(times, sizes),
-        entries::held(lists, RATES, sizes),
+        script_tables::layout_of(layout),
+        script_tables::held(lists, STARTS, sizes),
+        script_tables::held(lists, ENDS, sizes),
+        script_tables::held(lists, COUNTS, sizes),
+        script_tables::held_times(times, sizes),
+        script_tables::held(lists, RATES, sizes),
         out,
         place,
     )

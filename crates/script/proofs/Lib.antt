@@ -1,5 +1,0 @@
--- The laws that the proofs cite.
-mod Bits
-mod Changes
-mod Digits
-mod Lines
