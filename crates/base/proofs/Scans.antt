@@ -7,8 +7,8 @@
 --     sum-next, sum-same, sum-up  `sumBelow`
 use Prim.Native.Nat.{ℕ, zero, suc, _+_, _-_, _≤_, _<_}
 use mathlib.Core.Path.{_≡_, refl, sym, subst, _∙_}
-use mathlib.Core.Bool.{Bool, true, false, _&&_, _||_, cond}
-use mathlib.Core.Option.{Option, none, some, Option·none-ne-some, Option·some-ne-none}
+use mathlib.Core.Bool.{Bool, true, false, cond}
+use mathlib.Core.Option.{none, some, Option·none-ne-some, Option·some-ne-none}
 use mathlib.Core.Logic.{_⊎_, inl, inr, ⊎-elim}
 use native.Mathlib.Nat.{eq-or-lt-of-le, le-refl}
 use native.Mathlib.Numerals.{add-one}
@@ -16,7 +16,7 @@ use native.Mathlib.Omega.{arith}
 use borrow.Author.Tests.{eqb-true, eqb-false}
 use lib.Dec.{eqb}
 use Rattle.base.specs.Scans.{allBelow, someBelow, firstBelow, lastBelow, orElse, sumBelow}
-use Rattle.base.proofs.Tests.{by-test, not-both, and-both, and-first, and-second, and-out-first, and-out-second, or-first, or-second, or-neither}
+use Rattle.base.proofs.Tests.{by-test, not-both, and-both, and-first, and-second, or-first, or-second, or-neither}
 
 -- a fact of each number below n and of n is one of each number below n + 1
 below-suc : {A : ℕ → Type 0} {n : ℕ} → ((i : ℕ) → i < n → A i) → A n → (i : ℕ) → i < suc n → A i

@@ -1,11 +1,11 @@
 -- Signed numbers from -b to b - 1 as unsigned ones: order, sum and difference are those of their ordinals.
 use Prim.Native.Nat.{ℕ, zero, suc, _+_, _-_, _≤_, _<_}
-use mathlib.Core.Path.{_≡_, refl, sym, _∙_, ap}
-use mathlib.Core.Bool.{Bool, true, false, cond, true≢false}
-use lib.IntN.{ℤ, pos, negsuc, natAbs, subℕ, _+ℤ_, _-ℤ_}
+use mathlib.Core.Path.{_≡_, sym}
+use mathlib.Core.Bool.{true, true≢false}
+use lib.IntN.{ℤ, pos, negsuc}
 use lib.Dec.{leb, ltb}
 use lib.Signed.{mag, leZ, ltZ}
-use borrow.Author.Tests.{le-leb, lt-leb, lt-ltb, le-ltb, leb-true, leb-false, ltb-true, ltb-false}
+use borrow.Author.Tests.{le-leb, lt-leb, lt-ltb, le-ltb, leb-true, ltb-true, ltb-false}
 use native.Mathlib.Omega.{arith}
 use Rattle.base.specs.Signed.{later, elapsed, ordinal}
 use Rattle.base.proofs.Tests.{by-test, same-test}

@@ -1,5 +1,4 @@
 // Count to time and time to count under a table, and whether it steps back.
-ghost use mathlib.Core.Path.{_≡_};
 ghost use Prim.Native.Nat.{_≤_, _<_};
 ghost use lib.ListN.{length};
 use bench_report::LAST;

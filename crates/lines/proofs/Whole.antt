@@ -3,7 +3,7 @@
 --     fed-join, cuts    what is carried after an input is a function of its bytes, wherever it was cut
 --     whole             with the end of input it gives the lines, each as the line buffer keeps it
 --     too-long, enough  what is kept of a line tells whether it is too long, and otherwise is the line
-use Prim.Native.Nat.{ℕ, zero, suc, _+_, _≤_, _<_, min}
+use Prim.Native.Nat.{ℕ, zero, suc, _≤_, _<_, min}
 use mathlib.Core.Path.{_≡_, refl, sym, ap, _∙_}
 use mathlib.Core.Bool.{Bool, true, false, cond}
 use mathlib.Core.List.{List, [], _∷_, _++_, map, flatten, append-nil, append-assoc}

@@ -1,24 +1,24 @@
 -- No call gives a refusal outside its set.
 use Prim.Native.Nat.{ℕ, _-_, _≤_}
-use mathlib.Core.Path.{_≡_, refl, sym, _∙_}
-use mathlib.Core.Bool.{Bool, true, false, _&&_}
+use mathlib.Core.Path.{_≡_, refl}
+use mathlib.Core.Bool.{Bool, true, false}
 use mathlib.Core.List.{List, [], _∷_}
 use mathlib.Core.Option.{Option, none, some}
 use lib.IntN.{ℤ}
-use lib.Dec.{eqb, leb}
+use lib.Dec.{leb}
 use lib.ListN.{length, take, drop, length-take}
-use borrow.Author.Tests.{eq-eqb, leb-true, le-leb}
+use borrow.Author.Tests.{leb-true, le-leb}
 use native.Mathlib.Omega.{arith}
 use Rattle.base.specs.Scans.{among}
-use Rattle.base.proofs.Tests.{by-test, or-first, or-second, all-of-head, all-of-tail}
+use Rattle.base.proofs.Tests.{by-test, all-of-head, all-of-tail}
 use Rattle.rules.specs.Limits.{longestText}
 use Rattle.rules.specs.declared.Layout.{Layout}
 use Rattle.rules.specs.Answer.{Answer, answer, refused, unless, andThen}
 use Rattle.rules.specs.Layout.{layoutOk}
-use Rattle.rules.specs.Partitions.{Partitions, partitionsIn, partitionsOk}
+use Rattle.rules.specs.Partitions.{Partitions, partitionsOk}
 use Rattle.rules.specs.Segments.{Segments}
-use Rattle.rules.specs.Text.{Field, readText, fieldsCount, fieldsOf, eachField}
-use Rattle.rules.specs.Stamp.{readStamp, stampAt, slashIn, encodeNamed, encodeFound, encodeFirst, frontNumber, holds}
+use Rattle.rules.specs.Text.{Field, readText, fieldsCount, eachField}
+use Rattle.rules.specs.Stamp.{readStamp, stampAt, slashIn, encodeNamed, encodeFound, encodeFirst}
 use Rattle.rules.specs.Message.{readMessage, messageOk, textLength, textIn}
 use Rattle.rules.specs.Print.{printCount, printStamp, fitting}
 use Rattle.rules.specs.Time.{timeOf, timeIn, countAt, countIn, stepsBackIn, accepted, segmentOf, segmentAt}

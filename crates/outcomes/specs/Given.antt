@@ -1,15 +1,14 @@
 -- Each refusal of each set is given by some input.
-use Prim.Native.Nat.{ℕ, _^_}
+use Prim.Native.Nat.{ℕ}
 use mathlib.Core.Path.{_≡_, refl}
-use mathlib.Core.Bool.{Bool, false, _||_}
 use mathlib.Core.List.{List, [], _∷_, _++_, map}
-use lib.IntN.{ℤ, pos, negsuc}
+use lib.IntN.{pos, negsuc}
 use lib.ListN.{replicate}
 use Rattle.base.specs.Scans.{allOf, allBelow, someBelow, all, product, firstBelow, lastBelow, orElse, sumBelow}
 use Rattle.base.specs.Rounding.{roundUp, roundDown}
 use Rattle.base.specs.Signed.{later, elapsed}
 use Rattle.rules.specs.declared.Layout.{Layout}
-use Rattle.rules.specs.Answer.{Answer, answer, refused, unless, andThen}
+use Rattle.rules.specs.Answer.{refused, unless, andThen}
 use Rattle.rules.specs.Layout.{layoutOk, productOf, msfOf}
 use Rattle.rules.specs.Partitions.{Partitions, partitions, partitionsOk, partitionOk, totalOf, lengthsBefore}
 use Rattle.rules.specs.Segments.{

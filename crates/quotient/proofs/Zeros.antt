@@ -2,10 +2,10 @@
 -- Assumes nothing.
 use mathlib.Core.Path.{_≡_, sym, ap, _∙_}
 use Prim.Native.Nat.{ℕ, zero, suc, _+_, _-_, _*_, _/_, _%_, _^_, _≤_, _<_, max}
-use native.Mathlib.Nat.{pow-succ', mul-assoc, add-mul, one-mul, mul-le-mul-right, div-lt-iff-lt-mul, div-div-eq-div-mul, div-add-mod', mod-eq-of-lt}
+use native.Mathlib.Nat.{pow-succ', mul-assoc, add-mul, one-mul, mul-le-mul-right, div-add-mod', mod-eq-of-lt}
 use native.Mathlib.Omega.{arith}
 use lib.Count.{leadingZeros, leading-length}
-use lib.Pow.{pow-add, pow-pos, pow-mono, shr-lt}
+use lib.Pow.{pow-add, shr-lt}
 use mir.Syntax.{w64}
 use mir.Val.{Fits}
 use Rattle.quotient.specs.Steps.{Divided, Length, Starts}

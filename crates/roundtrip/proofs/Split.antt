@@ -6,7 +6,7 @@ use mathlib.Core.List.{List, [], _∷_}
 use lib.Dec.{leb}
 use lib.ListN.{length}
 use borrow.Author.Tests.{le-leb, leb-true}
-use native.Mathlib.Nat.{add-sub-cancel, mod-lt, div-add-mod', div-lt-iff-lt-mul, mul-le-mul, mul-pos}
+use native.Mathlib.Nat.{add-sub-cancel, mod-lt, div-add-mod', div-lt-iff-lt-mul, mul-le-mul}
 use native.Mathlib.Omega.{arith}
 use Rattle.base.specs.Scans.{all, product}
 use Rattle.rules.specs.Limits.{largestOffset, largestP, largestField}

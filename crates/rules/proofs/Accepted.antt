@@ -1,34 +1,20 @@
 -- A table is accepted exactly where its named facts hold, and slots after the n-th do not matter.
-use Prim.Native.Nat.{ℕ, zero, suc, _+_, _-_, _≤_, _<_}
-use mathlib.Core.Path.{_≡_, refl, subst, ap}
-use mathlib.Core.Bool.{Bool, true, false, _&&_, _||_}
-use mathlib.Core.List.{List, [], _∷_}
-use lib.Dec.{leb, ltb, eqb}
-use lib.Signed.{leZ, ltZ}
-use lib.ListN.{length, take}
+use Prim.Native.Nat.{ℕ, zero, suc, _+_, _-_, _<_}
+use mathlib.Core.Path.{_≡_, refl}
+use mathlib.Core.Bool.{true}
+use mathlib.Core.List.{[], _∷_}
+use lib.Dec.{ltb, eqb}
+use lib.Signed.{ltZ}
 use borrow.Author.Tests.{lt-ltb, le-leb, eq-eqb, ne-eqb, ltb-true, leb-true, eqb-true}
 use native.Mathlib.Omega.{arith}
-use native.Mathlib.Numerals.{add-one, sub-one}
-use Rattle.base.specs.Scans.{allOf, allBelow}
-use Rattle.base.proofs.Tests.{and-both, and-first, and-second, or-first, or-second, all-of-head, all-of-tail, all-of-cons, all-of-nil}
+use native.Mathlib.Numerals.{add-one}
+use Rattle.base.specs.Scans.{allOf}
+use Rattle.base.proofs.Tests.{and-both, or-second, all-of-head, all-of-tail}
 use Rattle.base.proofs.Scans.{all-at, all-from}
-use Rattle.rules.specs.Limits.{
-  mostFields,
-  largestOffset,
-  largestP,
-  largestMSF,
-  lastDelimiter,
-  mostPartitions,
-  largestTotal,
-  mostSegments,
-  earliestTime,
-  latestTime,
-  largestRate,
-}
 use Rattle.rules.specs.declared.Layout.{Layout}
 use Rattle.rules.specs.Layout.{moduliOf, offsetsOf, productOf, msfOf, layoutOk}
-use Rattle.rules.specs.Partitions.{Partitions, partitionsIn, startOf, endOf, totalOf, partitionOk, partitionsOk}
-use Rattle.rules.specs.Segments.{Segments, segmentsIn, countOf, timeAt, rateOf, unitOf, lineAt, segmentEnd, growsAt, rowOk, lineOk, segmentOk, segmentsOk}
+use Rattle.rules.specs.Partitions.{Partitions, partitionsIn, partitionOk, partitionsOk}
+use Rattle.rules.specs.Segments.{Segments, segmentsIn, countOf, timeAt, growsAt, rowOk, lineOk, segmentOk, segmentsOk}
 use Rattle.rules.specs.Facts.{LayoutFacts, PartitionFacts, PartitionsFacts, SegmentFacts, Grows, SegmentsFacts}
 
 pub layout-facts : (l : Layout) → layoutOk l ≡ true → LayoutFacts l

@@ -1,10 +1,9 @@
 -- How many rows a table may have, for every number of rows: partitions from 1 to 9,999, segments from 1 to 10,000.
 use Prim.Native.Nat.{ℕ, zero, suc, _+_, _-_, _*_, _/_, _≤_, _<_}
 use mathlib.Core.Path.{_≡_, refl, sym, ap, _∙_}
-use mathlib.Core.Bool.{Bool, true, false, _&&_, cond}
-use mathlib.Core.List.{List, [], _∷_}
+use mathlib.Core.Bool.{true, _&&_}
 use lib.Dec.{leb, ltb}
-use lib.IntN.{ℤ, pos}
+use lib.IntN.{pos}
 use lib.Signed.{leZ}
 use lib.ListN.{length, getD}
 use borrow.Author.Tests.{le-leb, leb-true, lt-ltb, ltb-true}
@@ -15,11 +14,10 @@ use Rattle.base.specs.Rounding.{roundUp}
 use Rattle.base.specs.Signed.{later}
 use Rattle.base.proofs.Tests.{by-test, same-test, and-both, and-first, and-second}
 use Rattle.base.proofs.Scans.{sum-same}
-use Rattle.rules.specs.declared.Layout.{Layout}
 use Rattle.rules.specs.Limits.{mostPartitions, mostSegments, latestTime}
-use Rattle.rules.specs.Layout.{layoutOk, productOf, msfOf}
+use Rattle.rules.specs.Layout.{productOf, msfOf}
 use Rattle.rules.specs.Partitions.{Partitions, partitionsIn, startOf, endOf, lengthOf, lengthsBefore, totalOf, partitionsOk}
-use Rattle.rules.specs.Segments.{Segments, segmentsIn, segmentsOk, unitOf, lineAt, segmentEnd, countOf, timeAt, rateOf}
+use Rattle.rules.specs.Segments.{segmentsIn, segmentsOk, unitOf, lineAt, segmentEnd, countOf, timeAt, rateOf}
 use Rattle.rules.specs.Facts.{PartitionFacts, PartitionsFacts, SegmentFacts, Grows, SegmentsFacts}
 use Rattle.rules.specs.Examples.{layoutA}
 use Rattle.rules.specs.Edges.{tabulate, manyPartitions, manySegments}

@@ -1,17 +1,17 @@
 -- The limits of the calls themselves, each at its edge and one beyond, as one table with one statement.
-use Prim.Native.Nat.{ℕ, _+_, _-_, _*_, _^_}
+use Prim.Native.Nat.{ℕ, _-_, _*_, _^_}
 use Prim.Native.String.{String}
 use mathlib.Core.Path.{_≡_, refl}
-use mathlib.Core.List.{List, [], _∷_, _++_, map}
-use lib.IntN.{ℤ, pos, negsuc}
-use lib.ListN.{length, replicate, drop}
+use mathlib.Core.List.{List, [], _∷_, _++_}
+use lib.IntN.{pos, negsuc}
+use lib.ListN.{length, replicate}
 use Rattle.base.specs.Scans.{allOf, allBelow, all, product, firstBelow, lastBelow, orElse, sumBelow}
 use Rattle.base.specs.Rounding.{roundUp, roundDown}
 use Rattle.base.specs.Signed.{later, elapsed}
 use Rattle.rules.specs.declared.Layout.{Layout}
-use Rattle.rules.specs.Answer.{Answer, answer, refused, unless, andThen}
+use Rattle.rules.specs.Answer.{answer, refused, unless, andThen}
 use Rattle.rules.specs.Layout.{layoutOk, productOf, msfOf}
-use Rattle.rules.specs.Partitions.{Partitions, partitions, partitionsOk, partitionOk, totalOf, lengthsBefore}
+use Rattle.rules.specs.Partitions.{partitionsOk, partitionOk, totalOf, lengthsBefore}
 use Rattle.rules.specs.Segments.{Segments, segments, segmentsOk, segmentOk, rowOk, growsAt, lineOk, lineAt, segmentEnd, unitOf}
 use Rattle.rules.specs.Text.{
   readText,
@@ -49,7 +49,7 @@ use Rattle.rules.specs.Print.{
   bufferAfter,
 }
 use Rattle.rules.specs.Time.{countAt, countIn, segmentAt, lineCount, stoppedAt, accepted}
-use Rattle.rules.specs.Examples.{bytes, layoutA, partitionsA, segmentsA, layoutB}
+use Rattle.rules.specs.Examples.{bytes, layoutA, partitionsA, segmentsA}
 
 -- the text reader's marks and blanks: the fields of a text, each as its digits
 unfoldable pub digitsIn : String → List (List ℕ)

@@ -1,6 +1,6 @@
 -- "Printing": a count to fields, to digits, to bytes at the front of a lent buffer.
-use Prim.Native.Nat.{ℕ, zero, suc, _+_, _-_, _*_, _/_, _%_, max}
-use mathlib.Core.Bool.{Bool, true, false}
+use Prim.Native.Nat.{ℕ, zero, suc, _+_, _-_, _/_, _%_, max}
+use mathlib.Core.Bool.{true, false}
 use mathlib.Core.List.{List, [], _∷_, _++_}
 use mathlib.Core.Option.{Option, none, some}
 use lib.Dec.{leb, ltb}
@@ -9,7 +9,7 @@ use Rattle.base.specs.Scans.{product, firstBelow}
 use Rattle.rules.specs.declared.Layout.{Layout}
 use Rattle.rules.specs.Layout.{layoutOk, moduliOf, offsetsOf, productOf}
 use Rattle.rules.specs.Partitions.{Partitions, partitionsIn, startOf, lengthsBefore, totalOf, partitionsOk}
-use Rattle.rules.specs.Answer.{Answer, answer, refused, unless, andThen}
+use Rattle.rules.specs.Answer.{Answer, answer, refused, unless}
 
 -- how many decimal digits x has, 0 having one; at most `most` and one more are counted
 unfoldable pub digitsUpTo : ℕ → ℕ → ℕ

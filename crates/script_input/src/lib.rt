@@ -1,6 +1,5 @@
 // The lines of standard input, which comes in chunks.
 ghost use Prim.Native.Nat.{_≤_};
-ghost use lib.ListN.{length};
 use libc::STDIN_FILENO;
 
 pub const LONGEST_LINE: usize = 8192;

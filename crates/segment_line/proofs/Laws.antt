@@ -1,14 +1,12 @@
 -- A segment's line in ordinals: what fits 64 bits, and the number that comes back.
 use Prim.Native.Nat.{ℕ, _+_, _-_, _*_, _^_, _≤_, _<_}
 use mathlib.Core.Path.{_≡_, refl, sym, ap, _∙_}
-use mathlib.Core.Bool.{Bool, true, false}
 use lib.IntN.{ℤ, pos, negsuc}
-use lib.Dec.{eqb, ltb}
-use lib.Signed.{leZ, mag}
+use lib.Signed.{mag}
 use mir.Syntax.{w64}
 use mir.Val.{Fits, SFits, toZ, ofZ}
 use mir.Facts.{toZ-ofZ}
-use borrow.Author.Tests.{eqb-true, ltb-true, ltb-false, leb-true}
+use borrow.Author.Tests.{leb-true}
 use native.Mathlib.Nat.{mul-le-mul-left, le-trans, le-of-mul-le-mul-right}
 use native.Mathlib.Omega.{arith}
 use Rattle.base.specs.Rounding.{roundUp, roundDown}

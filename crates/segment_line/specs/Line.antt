@@ -1,11 +1,11 @@
 -- What a segment's line needs so that its numbers fit 64 bits.
-use Prim.Native.Nat.{ℕ, _+_, _-_, _*_, _^_, _≤_, _<_}
+use Prim.Native.Nat.{ℕ, _-_, _*_, _^_, _≤_, _<_}
 use mathlib.Core.Path.{_≡_}
 use mathlib.Core.Bool.{true}
 use lib.IntN.{ℤ}
 use lib.Signed.{leZ, mag}
 use Rattle.base.specs.Rounding.{roundUp}
-use Rattle.base.specs.Signed.{later, ordinal}
+use Rattle.base.specs.Signed.{later}
 
 -- a count to its time: the count is not before the segment's, and the time reached is an i64
 pub record Forward (unit count : ℕ) (time : ℤ) (rate e : ℕ) : Type 0 where

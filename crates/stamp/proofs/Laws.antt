@@ -1,12 +1,12 @@
 -- The ways out of a line's answer.
 use Prim.Native.Nat.{ℕ}
-use mathlib.Core.Path.{_≡_, refl, sym, _∙_}
+use mathlib.Core.Path.{_≡_}
 use mathlib.Core.List.{List, [], _∷_}
 use lib.IntN.{ℤ, pos, negsuc}
 use mir.Syntax.{w64}
 use mir.Val.{SFits, toZ, ofZ}
 use mir.Facts.{toZ-ofZ}
-use Rattle.rules.specs.Answer.{Answer, answer, refused, andThen, countAnswer, timeAnswer}
+use Rattle.rules.specs.Answer.{andThen, countAnswer, timeAnswer}
 use Rattle.rules.specs.declared.CountAnswer.{CountAnswer}
 use Rattle.rules.specs.declared.CountAnswer.the-variants as Counted
 use Rattle.rules.specs.declared.TimeAnswer.{TimeAnswer}
@@ -19,7 +19,7 @@ use Rattle.rules.specs.Time.{timeOf}
 use Rattle.rules.specs.Examples.{layoutA, partitionsA, segmentsA}
 use Rattle.stamp.specs.declared.Stamped.{Stamped}
 use Rattle.stamp.specs.declared.Stamped.the-variants as Of
-use Rattle.stamp.specs.Stamps.{Stamp, stamp, stamped, timed, stampOf}
+use Rattle.stamp.specs.Stamps.{stamp, stamped, timed, stampOf}
 
 -- Table A as the code has it: the layout that a function answered, and the lists written out.
 module _ (l : Layout) (a-layout : l ≡ layoutA) where

@@ -6,7 +6,6 @@ ghost use lib.ListN.{length, take};
 ghost use Rattle.rules.specs.Examples.{layoutA};
 ghost use Rattle.lines.specs.Lines.{lineBuffer};
 ghost use Rattle.lines.specs.Steps.{lineLeft};
-ghost use Rattle.answers.specs.Places.{Put};
 ghost use Rattle.stamp.specs.Stamps.{stamped, stampOf, timed};
 use answers::put_refused;
 use answers::put_stamp;

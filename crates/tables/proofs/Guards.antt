@@ -1,8 +1,8 @@
 -- A guard `unless k t` that was passed, or that refused, whatever follows it.
 use Prim.Native.Nat.{ℕ}
-use mathlib.Core.Path.{_≡_, refl}
+use mathlib.Core.Path.{_≡_}
 use mathlib.Core.Bool.{Bool, true, false}
-use Rattle.rules.specs.Answer.{Answer, answer, refused, unless}
+use Rattle.rules.specs.Answer.{Answer, refused, unless}
 
 module _ {A : Type 0} where
   pub passed : (k : ℕ) (t : Bool) (x y : Answer A) → t ≡ true → y ≡ x → y ≡ unless k t x

@@ -1,11 +1,11 @@
 -- From what `accept` answers to the two public calls.
 use Prim.Native.Nat.{ℕ}
-use mathlib.Core.Path.{_≡_, refl, sym, _∙_}
+use mathlib.Core.Path.{_≡_, sym, _∙_}
 use lib.IntN.{ℤ}
 use mir.Syntax.{w64}
 use mir.Val.{SFits, toZ, ofZ}
 use mir.Facts.{toZ-ofZ}
-use Rattle.rules.specs.Answer.{Answer, answer, refused, timeAnswer, countAnswer}
+use Rattle.rules.specs.Answer.{Answer, answer, timeAnswer, countAnswer}
 use Rattle.rules.specs.declared.TimeAnswer.{TimeAnswer}
 use Rattle.rules.specs.declared.TimeAnswer.the-variants as Timed
 use Rattle.rules.specs.declared.CountAnswer.{CountAnswer}

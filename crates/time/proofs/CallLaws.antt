@@ -1,12 +1,12 @@
 -- The ways out of the two conversions within accepted tables.
-use Prim.Native.Nat.{ℕ, zero, suc, _+_, _-_, _*_, _^_, _≤_, _<_}
-use mathlib.Core.Path.{_≡_, refl, sym, ap, _∙_}
+use Prim.Native.Nat.{ℕ, zero, suc, _+_, _-_, _*_, _≤_, _<_}
+use mathlib.Core.Path.{_≡_, refl, sym, _∙_}
 use mathlib.Core.Bool.{Bool, true, false, not, _&&_, cond}
 use mathlib.Core.List.{List}
-use mathlib.Core.Option.{Option, none, some}
+use mathlib.Core.Option.{none, some}
 use lib.IntN.{ℤ, pos}
 use lib.Dec.{leb, ltb}
-use lib.Signed.{leZ, ltZ}
+use lib.Signed.{leZ}
 use lib.ListN.{length, getD}
 use borrow.Author.Tests.{le-leb, lt-leb, lt-ltb, le-ltb, leb-false, not-true, not-false}
 use native.Mathlib.Omega.{arith}
@@ -17,7 +17,7 @@ use Rattle.base.proofs.Tests.{by-test, and-first, and-second}
 use Rattle.base.proofs.Scans.{last-found}
 use Rattle.rules.specs.Limits.{earliestTime, latestTime}
 use Rattle.rules.specs.Answer.{Answer, answer, refused, unless}
-use Rattle.rules.specs.Segments.{Segments, segments, segmentsIn, countOf, timeAt, rateOf}
+use Rattle.rules.specs.Segments.{Segments, segments, segmentsIn}
 use Rattle.rules.specs.Time.{segmentOf, segmentAt, stoppedAt}
 use Rattle.segment_search.specs.Row.{rowOf}
 use Rattle.segment_line.specs.Line.{Forward, Back}

@@ -1,7 +1,7 @@
 -- The promises of specs/Promises.antt.
-use Prim.Native.Nat.{ℕ, suc, _+_, _-_, _*_, _≤_, _<_}
-use mathlib.Core.Path.{_≡_, refl, sym, _∙_}
-use mathlib.Core.Bool.{Bool, true, false, _&&_}
+use Prim.Native.Nat.{ℕ, suc, _-_, _*_, _≤_, _<_}
+use mathlib.Core.Path.{_≡_, refl}
+use mathlib.Core.Bool.{true, _&&_}
 use mathlib.Core.Option.{Option, none, some}
 use lib.IntN.{ℤ, pos, negsuc}
 use lib.Dec.{leb, ltb}
@@ -14,15 +14,15 @@ use Rattle.base.proofs.Tests.{by-test}
 use Rattle.base.proofs.Rounding.{up-above, up-below, down-below, down-above}
 use Rattle.rules.specs.Limits.{earliestTime, latestTime}
 use Rattle.rules.specs.declared.Layout.{Layout}
-use Rattle.rules.specs.Answer.{Answer, answer, refused, unless}
+use Rattle.rules.specs.Answer.{Answer, answer}
 use Rattle.rules.specs.Layout.{layoutOk}
 use Rattle.rules.specs.Partitions.{Partitions, totalOf, partitionsOk}
-use Rattle.rules.specs.Segments.{Segments, segmentsIn, countOf, timeAt, rateOf, unitOf, lineAt, segmentsOk}
+use Rattle.rules.specs.Segments.{Segments, countOf, timeAt, rateOf, unitOf, lineAt, segmentsOk}
 use Rattle.rules.specs.Facts.{LayoutFacts, SegmentsFacts}
 use Rattle.rules.specs.Time.{accepted, segmentOf, segmentAt, timeIn, timeOf, countIn, countAt, lineCount, stoppedAt}
 use Rattle.rules.proofs.Accepted.{layout-facts, segments-facts}
 use Rattle.rules.proofs.Answers.{unless-test, unless-rest}
-use Rattle.time.specs.Promises.{FirstAtOrAfter, TimeIsNearest, LastAtOrBefore, CountIsNearest, TickLasts, TimeInRange, TwelveNotThirteen}
+use Rattle.time.specs.Promises.{TimeIsNearest, CountIsNearest, TickLasts, TimeInRange, TwelveNotThirteen}
 use Rattle.time.proofs.RowLaws.{unit-low, reached, count-below, row-in, time-row-in}
 
 record Passed (A : Type 0) (l : Layout) (p : Partitions) (g : Segments) (a : Answer A) (x : A) : Type 0 where

@@ -1,16 +1,14 @@
 -- From accepted tables and the row that was found to what its line needs.
 use Prim.Native.Nat.{ℕ, zero, suc, _+_, _-_, _*_, _^_, _≤_, _<_}
-use mathlib.Core.Path.{_≡_, refl, sym, subst, _∙_}
-use mathlib.Core.Bool.{Bool, true, false, cond}
+use mathlib.Core.Path.{_≡_}
+use mathlib.Core.Bool.{true, false}
 use mathlib.Core.Option.{some}
 use lib.IntN.{ℤ, pos, negsuc}
-use lib.Dec.{leb, ltb}
+use lib.Dec.{ltb}
 use lib.Signed.{leZ, mag}
 use borrow.Author.Tests.{leb-true, leb-false, le-leb, ltb-true, ltb-false}
 use native.Mathlib.Nat.{mul-le-mul-left, mul-pos}
 use native.Mathlib.Omega.{arith}
-use Rattle.base.specs.Scans.{lastBelow}
-use Rattle.base.specs.Rounding.{roundUp}
 use Rattle.base.specs.Signed.{later}
 use Rattle.base.proofs.Tests.{by-test}
 use Rattle.base.proofs.Scans.{last-found}
@@ -21,7 +19,7 @@ use Rattle.rules.specs.declared.Layout.{Layout}
 use Rattle.rules.specs.Layout.{msfOf, moduliOf}
 use Rattle.rules.specs.Partitions.{Partitions, totalOf}
 use Rattle.rules.specs.Segments.{Segments, segmentsIn, countOf, timeAt, rateOf, unitOf, lineAt, segmentEnd}
-use Rattle.rules.specs.Facts.{LayoutFacts, SegmentFacts, SegmentsFacts}
+use Rattle.rules.specs.Facts.{LayoutFacts, SegmentsFacts}
 use Rattle.rules.specs.Time.{segmentOf, segmentAt}
 use Rattle.segment_line.specs.Line.{Forward, Back}
 

@@ -1,11 +1,11 @@
 -- Where a count stops: below the next segment's count, and at the total.
 use Prim.Native.Nat.{ℕ, _+_, _-_, _≤_, _<_}
-use mathlib.Core.Path.{_≡_, refl}
+use mathlib.Core.Path.{_≡_}
 use mathlib.Core.Bool.{cond}
 use lib.Dec.{leb}
 use borrow.Author.Tests.{le-leb, lt-leb}
 use native.Mathlib.Omega.{arith}
-use Rattle.rules.specs.Answer.{Answer, answer, refused, unless}
+use Rattle.rules.specs.Answer.{answer, refused, unless}
 
 module _ (count next q : ℕ) (grows : count < next) where
   pub stops : next - count ≤ q → next - 1 ≡ cond (leb next (count + q)) (next - 1) (count + q)

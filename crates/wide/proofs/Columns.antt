@@ -1,6 +1,6 @@
 -- The product of two numbers of two digits each, in any base P, by the four products of two digits.
 -- Assumes nothing.
-use mathlib.Core.Path.{_≡_, refl, sym, _∙_}
+use mathlib.Core.Path.{_≡_, sym, _∙_}
 use Prim.Native.Nat.{ℕ, _+_, _*_, _/_, _%_, _<_}
 use native.Mathlib.Nat.{add-assoc, add-comm, add-left-comm, mul-assoc, mul-comm, mul-left-comm, mul-add, add-mul, mod-lt, div-add-mod'}
 use lib.Arith.{digits-lt, digits-div, digits-mod}

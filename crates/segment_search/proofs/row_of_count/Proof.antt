@@ -1,14 +1,11 @@
-use Prim.Native.Nat.{ℕ, _+_, _-_, _*_, _≤_, _<_}
+use Prim.Native.Nat.{_≤_}
 use mathlib.Core.Path.{_≡_}
-use native.Mathlib.Omega.{arith}
 use borrow.Author.Needs.{needs}
 use lib.ListN.{length, getD}
 use denote.Ref.{now}
 use lib.Dec.{leb}
-use lib.Signed.{leZ}
-use lib.IntN.{pos}
 use Rattle.base.specs.Scans.{lastBelow}
-use Rattle.segment_search.proofs.Laws.{count-here, count-down, count-none, time-here, time-down, time-none}
+use Rattle.segment_search.proofs.Laws.{count-here, count-down, count-none}
 use Rattle.segment_search.proofs.row_of_count.Statement.{statement}
 use Rattle.segment_search.proofs.row_of_count.Tie as tie
 
