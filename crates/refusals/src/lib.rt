@@ -1,34 +1,36 @@
-// The numbers of document 01's table "What is refused", by name. Code writes a refusal by one of these.
-pub const LAYOUT: u64 = 1;
+// The refusals of document 01's table "What is refused", by name. Code refuses with one of these and writes no number.
+use rules::Refusal;
 
-pub const PARTITIONS: u64 = 2;
+pub const LAYOUT: Refusal = Refusal { number: 1 };
 
-pub const SEGMENTS: u64 = 3;
+pub const PARTITIONS: Refusal = Refusal { number: 2 };
 
-pub const TEXT_TOO_LONG: u64 = 4;
+pub const SEGMENTS: Refusal = Refusal { number: 3 };
 
-pub const BYTE_NOT_ALLOWED: u64 = 5;
+pub const TEXT_TOO_LONG: Refusal = Refusal { number: 4 };
 
-pub const FIRST_FIELD_MISSING: u64 = 6;
+pub const BYTE_NOT_ALLOWED: Refusal = Refusal { number: 5 };
 
-pub const TOO_MANY_FIELDS: u64 = 7;
+pub const FIRST_FIELD_MISSING: Refusal = Refusal { number: 6 };
 
-pub const FIELD_BELOW_OFFSET: u64 = 8;
+pub const TOO_MANY_FIELDS: Refusal = Refusal { number: 7 };
+
+pub const FIELD_BELOW_OFFSET: Refusal = Refusal { number: 8 };
 // A field, a sum of fields or a count to print.
-pub const TOO_LARGE: u64 = 9;
+pub const TOO_LARGE: Refusal = Refusal { number: 9 };
 
-pub const NO_SUCH_PARTITION: u64 = 10;
+pub const NO_SUCH_PARTITION: Refusal = Refusal { number: 10 };
 
-pub const OUTSIDE_PARTITION: u64 = 11;
+pub const OUTSIDE_PARTITION: Refusal = Refusal { number: 11 };
 
-pub const BEYOND_TOTAL: u64 = 12;
+pub const BEYOND_TOTAL: Refusal = Refusal { number: 12 };
 
-pub const BEFORE_FIRST_SEGMENT: u64 = 13;
+pub const BEFORE_FIRST_SEGMENT: Refusal = Refusal { number: 13 };
 
-pub const TIME_OUT_OF_RANGE: u64 = 14;
+pub const TIME_OUT_OF_RANGE: Refusal = Refusal { number: 14 };
 
-pub const DOUBLE_FORM: u64 = 15;
+pub const DOUBLE_FORM: Refusal = Refusal { number: 15 };
 
-pub const BUFFER_TOO_SHORT: u64 = 16;
+pub const BUFFER_TOO_SHORT: Refusal = Refusal { number: 16 };
 
-pub const MESSAGE: u64 = 17;
+pub const MESSAGE: Refusal = Refusal { number: 17 };

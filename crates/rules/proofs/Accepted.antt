@@ -14,7 +14,7 @@ use Rattle.base.proofs.Scans.{all-at, all-from}
 use Rattle.rules.specs.declared.Layout.{Layout}
 use Rattle.rules.specs.Layout.{moduliOf, offsetsOf, productOf, msfOf, layoutOk}
 use Rattle.rules.specs.Partitions.{Partitions, partitionsIn, partitionOk, partitionsOk}
-use Rattle.rules.specs.Segments.{Segments, segmentsIn, countOf, timeAt, growsAt, rowOk, lineOk, segmentOk, segmentsOk}
+use Rattle.rules.specs.Segments.{Segments, segmentsIn, rowOf, follows, growsAt, rowOk, lineOk, segmentOk, segmentsOk}
 use Rattle.rules.specs.Facts.{LayoutFacts, PartitionFacts, PartitionsFacts, SegmentFacts, Grows, SegmentsFacts}
 
 pub layout-facts : (l : Layout) → layoutOk l ≡ true → LayoutFacts l
@@ -53,17 +53,17 @@ pub layout-slots : (l k : Layout) → l .n ≡ k .n → moduliOf l ≡ moduliOf 
 unfolding layoutOk productOf msfOf
 layout-slots l k en em eo ed = rw (em, eo, en, ed)
 
-pub partition-facts : (l : Layout) (p : Partitions) (i : ℕ) → partitionOk l p i ≡ true → PartitionFacts l p i
+pub partition-facts : (P : ℕ) (p : Partitions) (i : ℕ) → partitionOk P p i ≡ true → PartitionFacts P p i
 unfolding partitionOk
-partition-facts l p i h = record { ordered = ltb-true _ _ (all-of-head _ _ h); in-range = ltb-true _ _ (all-of-head _ _ (all-of-tail _ _ h)) }
+partition-facts P p i h = record { ordered = ltb-true _ _ (all-of-head _ _ h); in-range = ltb-true _ _ (all-of-head _ _ (all-of-tail _ _ h)) }
 
-pub partition-accepted : (l : Layout) (p : Partitions) (i : ℕ) → PartitionFacts l p i → partitionOk l p i ≡ true
+pub partition-accepted : (P : ℕ) (p : Partitions) (i : ℕ) → PartitionFacts P p i → partitionOk P p i ≡ true
 unfolding partitionOk allOf
-partition-accepted l p i f = and-both (lt-ltb _ _ (f .ordered)) (and-both (lt-ltb _ _ (f .in-range)) refl)
+partition-accepted P p i f = and-both (lt-ltb _ _ (f .ordered)) (and-both (lt-ltb _ _ (f .in-range)) refl)
 
-pub partitions-facts : (l : Layout) (p : Partitions) → partitionsOk l p ≡ true → PartitionsFacts l p
+pub partitions-facts : (P : ℕ) (p : Partitions) → partitionsOk P p ≡ true → PartitionsFacts P p
 unfolding partitionsOk
-partitions-facts l p h =
+partitions-facts P p h =
     let h1 = all-of-tail _ _ h in
     let h2 = all-of-tail _ _ h1 in
     let h3 = all-of-tail _ _ h2 in
@@ -72,21 +72,21 @@ partitions-facts l p h =
       one-length = eqb-true _ _ (all-of-head _ _ h);
       some = leb-true _ _ (all-of-head _ _ h1);
       few = leb-true _ _ (all-of-head _ _ h2);
-      each = λ i b. partition-facts l p i (all-at (partitionOk l p) (partitionsIn p) i (all-of-head _ _ h3) b);
+      each = λ i b. partition-facts P p i (all-at (partitionOk P p) (partitionsIn p) i (all-of-head _ _ h3) b);
       total = leb-true _ _ (all-of-head _ _ h4);
     }
 
-pub partitions-accepted : (l : Layout) (p : Partitions) → PartitionsFacts l p → partitionsOk l p ≡ true
+pub partitions-accepted : (P : ℕ) (p : Partitions) → PartitionsFacts P p → partitionsOk P p ≡ true
 unfolding partitionsOk allOf
-partitions-accepted l p f =
+partitions-accepted P p f =
     and-both (eq-eqb _ _ (f .one-length))
     (and-both (le-leb _ _ (f .some))
     (and-both (le-leb _ _ (f .few))
-    (and-both (all-from (partitionOk l p) (partitionsIn p) (λ i b. partition-accepted l p i (f .each i b)))
+    (and-both (all-from (partitionOk P p) (partitionsIn p) (λ i b. partition-accepted P p i (f .each i b)))
     (and-both (le-leb _ _ (f .total)) refl))))
 
-module _ (l : Layout) (p : Partitions) (g : Segments) where
-  segment-facts : (i : ℕ) → segmentOk l p g i ≡ true → SegmentFacts l p g i
+module _ (unit total : ℕ) (g : Segments) where
+  segment-facts : (i : ℕ) → segmentOk unit total g i ≡ true → SegmentFacts unit total g i
   unfolding segmentOk rowOk lineOk
   segment-facts i h =
       let r = all-of-head _ _ h in
@@ -102,17 +102,17 @@ module _ (l : Layout) (p : Partitions) (g : Segments) where
       }
 
   grow-facts : (i : ℕ) → growsAt g (i + 1) ≡ true → Grows g i
-  unfolding growsAt
+  unfolding growsAt follows
   grow-facts i h = split (rw (ne-eqb (i + 1) 0 (λ e. omega arith), before) at h)
     where
       before : i + 1 - 1 ≡ i
       before = omega arith
 
-      split : allOf (ltb (countOf g i) (countOf g (i + 1)) ∷ ltZ (timeAt g i) (timeAt g (i + 1)) ∷ []) ≡ true → Grows g i
+      split : allOf (ltb (rowOf g i .count) (rowOf g (i + 1) .count) ∷ ltZ (rowOf g i .time) (rowOf g (i + 1) .time) ∷ []) ≡ true → Grows g i
       split w = record { counts = ltb-true _ _ (all-of-head _ _ w); times = all-of-head _ _ (all-of-tail _ _ w) }
 
   grown : (i : ℕ) → Grows g i → growsAt g (i + 1) ≡ true
-  unfolding growsAt allOf
+  unfolding growsAt follows allOf
   grown i w = or-second (eqb (i + 1) 0) (rw before (and-both (lt-ltb _ _ (w .counts)) (and-both (w .times) refl)))
     where
       before : i + 1 - 1 ≡ i
@@ -123,7 +123,7 @@ module _ (l : Layout) (p : Partitions) (g : Segments) where
   grow-accepted f zero b = refl
   grow-accepted f (suc i) b = rw add-one at (grown i (f i (omega arith)))
 
-  pub segments-facts : segmentsOk l p g ≡ true → SegmentsFacts l p g
+  pub segments-facts : segmentsOk unit total g ≡ true → SegmentsFacts unit total g
   unfolding segmentsOk segmentOk
   segments-facts h =
       let h1 = all-of-tail _ _ h in
@@ -138,20 +138,20 @@ module _ (l : Layout) (p : Partitions) (g : Segments) where
         some = leb-true _ _ (all-of-head _ _ h2);
         few = leb-true _ _ (all-of-head _ _ h3);
         last = leb-true _ _ (all-of-head _ _ h4);
-        each = λ i b. segment-facts i (all-at (segmentOk l p g) (segmentsIn g) i rows b);
-        grow = λ i b. grow-facts i (all-of-head _ _ (all-of-tail _ _ (all-at (segmentOk l p g) (segmentsIn g) (i + 1) rows b)));
+        each = λ i b. segment-facts i (all-at (segmentOk unit total g) (segmentsIn g) i rows b);
+        grow = λ i b. grow-facts i (all-of-head _ _ (all-of-tail _ _ (all-at (segmentOk unit total g) (segmentsIn g) (i + 1) rows b)));
       }
 
-  pub segments-accepted : SegmentsFacts l p g → segmentsOk l p g ≡ true
+  pub segments-accepted : SegmentsFacts unit total g → segmentsOk unit total g ≡ true
   unfolding segmentsOk segmentOk rowOk lineOk allOf
   segments-accepted f =
       and-both (eq-eqb _ _ (f .times-length))
       (and-both (eq-eqb _ _ (f .rates-length))
       (and-both (le-leb _ _ (f .some))
       (and-both (le-leb _ _ (f .few))
-      (and-both (le-leb _ _ (f .last)) (and-both (all-from (segmentOk l p g) (segmentsIn g) row) refl)))))
+      (and-both (le-leb _ _ (f .last)) (and-both (all-from (segmentOk unit total g) (segmentsIn g) row) refl)))))
     where
-      row : (i : ℕ) → i < segmentsIn g → segmentOk l p g i ≡ true
+      row : (i : ℕ) → i < segmentsIn g → segmentOk unit total g i ≡ true
       row i b =
           let s = f .each i b in
           and-both

@@ -3,10 +3,11 @@ use Prim.Native.Nat.{ℕ}
 use mathlib.Core.Path.{_≡_, refl}
 use mathlib.Core.Bool.{Bool, true, false}
 use native.Mathlib.Omega.{arith}
+use Rattle.rules.specs.declared.Refusal.{Refusal}
 use Rattle.rules.specs.Answer.{Answer, answer, refused, unless}
 
 module _ {A : Type 0} where
-  pub not-answer : {k : ℕ} {v : A} → _≡_ {A = Answer A} (refused k) (answer v) → ⊥
+  pub not-answer : {k : Refusal} {v : A} → _≡_ {A = Answer A} (refused k) (answer v) → ⊥
   not-answer h = let z : _≡_ {A = ℕ} 0 1 = cc in omega arith
 
   pub unless-test : (k : ℕ) (t : Bool) (a : Answer A) (v : A) → unless k t a ≡ answer v → t ≡ true

@@ -15,9 +15,9 @@ use Rattle.base.specs.Signed.{later}
 use Rattle.base.proofs.Tests.{by-test, same-test, and-both, and-first, and-second}
 use Rattle.base.proofs.Scans.{sum-same}
 use Rattle.rules.specs.Limits.{mostPartitions, mostSegments, latestTime}
-use Rattle.rules.specs.Layout.{productOf, msfOf}
+use Rattle.rules.specs.Layout.{productOf, msfOf, unitOf}
 use Rattle.rules.specs.Partitions.{Partitions, partitionsIn, startOf, endOf, lengthOf, lengthsBefore, totalOf, partitionsOk}
-use Rattle.rules.specs.Segments.{segmentsIn, segmentsOk, unitOf, lineAt, segmentEnd, countOf, timeAt, rateOf}
+use Rattle.rules.specs.Segments.{segmentsIn, segmentsOk, lineAt, segmentEnd, rowOf}
 use Rattle.rules.specs.Facts.{PartitionFacts, PartitionsFacts, SegmentFacts, Grows, SegmentsFacts}
 use Rattle.rules.specs.Examples.{layoutA}
 use Rattle.rules.specs.Edges.{tabulate, manyPartitions, manySegments}
@@ -65,13 +65,13 @@ product-A : productOf layoutA ≡ 1_000
 unfolding productOf layoutA product
 product-A = refl
 
-pub many-partitions : (n : ℕ) → partitionsOk layoutA (manyPartitions n) ≡ (leb 1 n && leb n mostPartitions)
+pub many-partitions : (n : ℕ) → partitionsOk (productOf layoutA) (manyPartitions n) ≡ (leb 1 n && leb n mostPartitions)
 many-partitions n = same-test _ _ (λ h. few (partitions-facts _ _ h)) (λ h. partitions-accepted _ _ (fits (leb-true 1 n (and-first (leb 1 n) _ h)) (leb-true n mostPartitions (and-second (leb 1 n) _ h))))
   where
-    few : PartitionsFacts layoutA (manyPartitions n) → (leb 1 n && leb n mostPartitions) ≡ true
+    few : PartitionsFacts (productOf layoutA) (manyPartitions n) → (leb 1 n && leb n mostPartitions) ≡ true
     few f = and-both (le-leb _ _ (rw (many-in n) at (f .some))) (le-leb _ _ (rw (many-in n) at (f .few)))
 
-    fits : 1 ≤ n → n ≤ mostPartitions → PartitionsFacts layoutA (manyPartitions n)
+    fits : 1 ≤ n → n ≤ mostPartitions → PartitionsFacts (productOf layoutA) (manyPartitions n)
     fits low high =
         record {
           one-length = ends-length ∙ sym (many-in n);
@@ -84,7 +84,7 @@ many-partitions n = same-test _ _ (λ h. few (partitions-facts _ _ h)) (λ h. pa
         ends-length : length (manyPartitions n .ends) ≡ n
         ends-length = ends-of n
 
-        row : (i : ℕ) → i < n → PartitionFacts layoutA (manyPartitions n) i
+        row : (i : ℕ) → i < n → PartitionFacts (productOf layoutA) (manyPartitions n) i
         row i b =
             record {
               ordered = rw (many-starts n i b, many-ends n i b) (omega arith);
@@ -100,15 +100,15 @@ abbrev pub spans : Partitions
 spans = manyPartitions mostPartitions
 
 module _ (n : ℕ) where
-  many-count : (i : ℕ) → i < n → countOf (manySegments n) i ≡ i
+  many-count : (i : ℕ) → i < n → rowOf (manySegments n) i .count ≡ i
   unfolding manySegments
   many-count i h = tabulate-at (λ j. j) 0 n i h
 
-  many-time : (i : ℕ) → i < n → timeAt (manySegments n) i ≡ pos (1_000_000 * i)
+  many-time : (i : ℕ) → i < n → rowOf (manySegments n) i .time ≡ pos (1_000_000 * i)
   unfolding manySegments
   many-time i h = tabulate-at (λ j. pos (1_000_000 * j)) (pos 0) n i h
 
-  many-rate : (i : ℕ) → i < n → rateOf (manySegments n) i ≡ 10_000
+  many-rate : (i : ℕ) → i < n → rowOf (manySegments n) i .rate ≡ 10_000
   unfolding manySegments
   many-rate i h = tabulate-at (λ j. 10_000) 0 n i h
 
@@ -125,7 +125,7 @@ module _ (n : ℕ) where
   many-rates = tabulate-length (λ j. 10_000) n
 
   -- every segment ends by count 9,999
-  many-end : (i : ℕ) → i < n → n ≤ mostSegments → segmentEnd spans (manySegments n) i ≤ 9_999
+  many-end : (i : ℕ) → i < n → n ≤ mostSegments → segmentEnd (totalOf spans) (manySegments n) i ≤ 9_999
   unfolding segmentEnd
   many-end i h m =
       by-test (ltb (i + 1) (segmentsIn (manySegments n)))
@@ -138,21 +138,21 @@ module _ (n : ℕ) where
       low : i + 1 < n → i + 1 ≤ 9_999
       low b = omega arith
 
-  many-line : (i e : ℕ) → i < n → n ≤ mostSegments → e ≤ 9_999 → leZ (lineAt layoutA (manySegments n) i e) latestTime ≡ true
+  many-line : (i e : ℕ) → i < n → n ≤ mostSegments → e ≤ 9_999 → leZ (lineAt (unitOf layoutA) (rowOf (manySegments n) i) e) latestTime ≡ true
   unfolding lineAt later roundUp
   many-line i e h m b =
       rw (many-time i h, many-rate i h, many-count i h, unit-A)
       (le-leb (1_000_000 * i + (10_000 * (e - i) + 9_999) / 10_000) 4_000_000_000_000_000_000 (omega arith))
 
-  pub many-segments : segmentsOk layoutA spans (manySegments n) ≡ (leb 1 n && leb n mostSegments)
+  pub many-segments : segmentsOk (unitOf layoutA) (totalOf spans) (manySegments n) ≡ (leb 1 n && leb n mostSegments)
   many-segments =
       same-test _ _ (λ h. few (segments-facts _ _ _ h))
       (λ h. segments-accepted _ _ _ (fits (leb-true 1 n (and-first (leb 1 n) _ h)) (leb-true n mostSegments (and-second (leb 1 n) _ h))))
     where
-      few : SegmentsFacts layoutA spans (manySegments n) → (leb 1 n && leb n mostSegments) ≡ true
+      few : SegmentsFacts (unitOf layoutA) (totalOf spans) (manySegments n) → (leb 1 n && leb n mostSegments) ≡ true
       few f = and-both (le-leb _ _ (rw many-rows at (f .some))) (le-leb _ _ (rw many-rows at (f .few)))
 
-      row : n ≤ mostSegments → (i : ℕ) → i < n → SegmentFacts layoutA spans (manySegments n) i
+      row : n ≤ mostSegments → (i : ℕ) → i < n → SegmentFacts (unitOf layoutA) (totalOf spans) (manySegments n) i
       row m i b =
           record {
             early = rw (many-time i b);
@@ -169,13 +169,13 @@ module _ (n : ℕ) where
             times = rw (many-time i (omega arith), many-time (i + 1) b) (lt-ltb (1_000_000 * i) (1_000_000 * (i + 1)) (omega arith));
           }
 
-      final : 1 ≤ n → n ≤ mostSegments → countOf (manySegments n) (segmentsIn (manySegments n) - 1) ≤ totalOf spans
+      final : 1 ≤ n → n ≤ mostSegments → rowOf (manySegments n) (segmentsIn (manySegments n) - 1) .count ≤ totalOf spans
       final low m = rw (many-rows, many-count (n - 1) (omega arith), total-of-spans) (omega arith)
         where
           total-of-spans : totalOf spans ≡ 9_999
           total-of-spans = many-total mostPartitions
 
-      fits : 1 ≤ n → n ≤ mostSegments → SegmentsFacts layoutA spans (manySegments n)
+      fits : 1 ≤ n → n ≤ mostSegments → SegmentsFacts (unitOf layoutA) (totalOf spans) (manySegments n)
       fits low m =
           record {
             times-length = many-times ∙ sym many-rows;

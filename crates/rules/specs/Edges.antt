@@ -6,28 +6,13 @@ use mathlib.Core.Bool.{Bool, true, false}
 use mathlib.Core.List.{List, [], _∷_, _++_, map}
 use lib.IntN.{ℤ, pos, negsuc}
 use lib.ListN.{replicate, length, take}
-use Rattle.base.specs.Scans.{allOf, allBelow, someBelow, all, product, sumBelow}
-use Rattle.base.specs.Rounding.{roundUp}
-use Rattle.base.specs.Signed.{later}
+use Rattle.base.specs.Scans.{sumBelow}
 use Rattle.rules.specs.declared.Layout.{Layout}
-use Rattle.rules.specs.Answer.{Answer, answer, refused, unless}
-use Rattle.rules.specs.Layout.{layoutOk, productOf, msfOf}
-use Rattle.rules.specs.Partitions.{Partitions, partitions, partitionsOk, partitionOk, totalOf, lengthsBefore}
-use Rattle.rules.specs.Segments.{
-  Segments,
-  segments,
-  segmentsOk,
-  segmentOk,
-  rowOk,
-  growsAt,
-  lineOk,
-  lineAt,
-  segmentEnd,
-  unitOf,
-  stepsBack,
-  stepsBackAt,
-}
-use Rattle.rules.specs.Time.{stepsBackIn, accepted}
+use Rattle.rules.specs.Answer.{Answer, answer, refuse}
+use Rattle.rules.specs.Partitions.{Partitions, partitions, totalOf, lengthsBefore}
+use Rattle.rules.specs.Segments.{Segments, segments}
+use Rattle.rules.specs.Time.{stepsBackIn}
+use Rattle.rules.specs.Computing.{computing}
 use Rattle.rules.specs.Examples.{layoutA, partitionsA, segmentsA}
 
 -- ten slots, the given numbers first and 0 after them
@@ -71,13 +56,13 @@ secondAt : ℕ → ℤ → Segments
 secondAt c t = segments (0 ∷ c ∷ []) (negsuc 999 ∷ t ∷ []) (25_000 ∷ 30_000 ∷ [])
 
 pub record Edge : Type 0 where
-  pub clock : Layout
+  pub layout : Layout
   pub spans : Partitions
   pub rows : Segments
   pub expected : Answer Bool
 
 edge : Layout → Partitions → Segments → Answer Bool → Edge
-edge l p g a = record { clock = l; spans = p; rows = g; expected = a }
+edge l p g a = record { layout = l; spans = p; rows = g; expected = a }
 
 -- accepted, and whether the table steps back
 grows : Answer Bool
@@ -87,8 +72,8 @@ stepsBackward : Answer Bool
 stepsBackward = answer true
 
 -- the fields' edges, asked with one partition and one segment that fit every layout here
-clockEdge : Layout → Answer Bool → Edge
-clockEdge l a = edge l (upTo 1) (oneSegment (pos 0) (10 ^ 15)) a
+layoutEdge : Layout → Answer Bool → Edge
+layoutEdge l a = edge l (upTo 1) (oneSegment (pos 0) (10 ^ 15)) a
 
 -- the partitions' edges
 spanEdge : Partitions → Answer Bool → Edge
@@ -105,69 +90,69 @@ edges =
     ∷ rowEdge (secondAt 600 (pos 500)) grows
     ∷ rowEdge (secondAt 600 (pos 499)) stepsBackward
     -- n
-    ∷ clockEdge (layout 0 (100 ∷ 10 ∷ []) [] 1) (refused 1)
-    ∷ clockEdge (layout 1 (100 ∷ 10 ∷ []) [] 1) grows
-    ∷ clockEdge (layout 10 (2 ∷ 2 ∷ 2 ∷ 2 ∷ 2 ∷ 2 ∷ 2 ∷ 2 ∷ 2 ∷ 2 ∷ []) [] 1) grows
-    ∷ clockEdge (layout 11 (2 ∷ 2 ∷ 2 ∷ 2 ∷ 2 ∷ 2 ∷ 2 ∷ 2 ∷ 2 ∷ 2 ∷ []) [] 1) (refused 1)
+    ∷ layoutEdge (layout 0 (100 ∷ 10 ∷ []) [] 1) (refuse 1)
+    ∷ layoutEdge (layout 1 (100 ∷ 10 ∷ []) [] 1) grows
+    ∷ layoutEdge (layout 10 (2 ∷ 2 ∷ 2 ∷ 2 ∷ 2 ∷ 2 ∷ 2 ∷ 2 ∷ 2 ∷ 2 ∷ []) [] 1) grows
+    ∷ layoutEdge (layout 11 (2 ∷ 2 ∷ 2 ∷ 2 ∷ 2 ∷ 2 ∷ 2 ∷ 2 ∷ 2 ∷ 2 ∷ []) [] 1) (refuse 1)
     -- a modulus, an offset; slots after the n-th are not looked at
-    ∷ clockEdge (moduli (100 ∷ 0 ∷ [])) (refused 1)
-    ∷ clockEdge (moduli (100 ∷ 1 ∷ [])) grows
-    ∷ clockEdge (offset 1_000) grows
-    ∷ clockEdge (offset 1_001) (refused 1)
-    ∷ clockEdge (layout 2 (100 ∷ 10 ∷ (2 ^ 64 - 1) ∷ []) (0 ∷ 0 ∷ (2 ^ 64 - 1) ∷ []) 1) grows
+    ∷ layoutEdge (moduli (100 ∷ 0 ∷ [])) (refuse 1)
+    ∷ layoutEdge (moduli (100 ∷ 1 ∷ [])) grows
+    ∷ layoutEdge (offset 1_000) grows
+    ∷ layoutEdge (offset 1_001) (refuse 1)
+    ∷ layoutEdge (layout 2 (100 ∷ 10 ∷ (2 ^ 64 - 1) ∷ []) (0 ∷ 0 ∷ (2 ^ 64 - 1) ∷ []) 1) grows
     -- P and MSF, and products that wrap in 64 bits
-    ∷ clockEdge (moduli ((10 ^ 15) ∷ [])) grows
-    ∷ clockEdge (moduli ((10 ^ 15 + 1) ∷ [])) (refused 1)
-    ∷ clockEdge (moduli (1_000 ∷ (10 ^ 12) ∷ [])) grows
-    ∷ clockEdge (moduli (1 ∷ (10 ^ 12 + 1) ∷ [])) (refused 1)
-    ∷ clockEdge (moduli ((2 ^ 32) ∷ (2 ^ 32) ∷ [])) (refused 1)
-    ∷ clockEdge (moduli ((2 ^ 63) ∷ 2 ∷ [])) (refused 1)
+    ∷ layoutEdge (moduli ((10 ^ 15) ∷ [])) grows
+    ∷ layoutEdge (moduli ((10 ^ 15 + 1) ∷ [])) (refuse 1)
+    ∷ layoutEdge (moduli (1_000 ∷ (10 ^ 12) ∷ [])) grows
+    ∷ layoutEdge (moduli (1 ∷ (10 ^ 12 + 1) ∷ [])) (refuse 1)
+    ∷ layoutEdge (moduli ((2 ^ 32) ∷ (2 ^ 32) ∷ [])) (refuse 1)
+    ∷ layoutEdge (moduli ((2 ^ 63) ∷ 2 ∷ [])) (refuse 1)
     -- the delimiter
-    ∷ clockEdge (delimiter 0) (refused 1)
-    ∷ clockEdge (delimiter 1) grows
-    ∷ clockEdge (delimiter 5) grows
-    ∷ clockEdge (delimiter 6) (refused 1)
+    ∷ layoutEdge (delimiter 0) (refuse 1)
+    ∷ layoutEdge (delimiter 1) grows
+    ∷ layoutEdge (delimiter 5) grows
+    ∷ layoutEdge (delimiter 6) (refuse 1)
     -- no partition, lists of one length, a start at its end, an end at P, the total
-    ∷ spanEdge (partitions [] []) (refused 2)
-    ∷ spanEdge (partitions (0 ∷ 0 ∷ []) (1 ∷ [])) (refused 2)
-    ∷ spanEdge (partitions (0 ∷ []) (1 ∷ 1 ∷ [])) (refused 2)
+    ∷ spanEdge (partitions [] []) (refuse 2)
+    ∷ spanEdge (partitions (0 ∷ 0 ∷ []) (1 ∷ [])) (refuse 2)
+    ∷ spanEdge (partitions (0 ∷ []) (1 ∷ 1 ∷ [])) (refuse 2)
     ∷ spanEdge (partitions (5 ∷ []) (6 ∷ [])) grows
-    ∷ spanEdge (partitions (5 ∷ []) (5 ∷ [])) (refused 2)
-    ∷ spanEdge (partitions (6 ∷ []) (5 ∷ [])) (refused 2)
+    ∷ spanEdge (partitions (5 ∷ []) (5 ∷ [])) (refuse 2)
+    ∷ spanEdge (partitions (6 ∷ []) (5 ∷ [])) (refuse 2)
     ∷ spanEdge (upTo 999) grows
-    ∷ spanEdge (upTo 1_000) (refused 2)
+    ∷ spanEdge (upTo 1_000) (refuse 2)
     ∷ edge (moduli ((10 ^ 15) ∷ [])) (partitions (0 ∷ 0 ∷ []) ((10 ^ 15 - 1) ∷ 1 ∷ [])) (oneSegment (pos 0) 1_000) grows
-    ∷ edge (moduli ((10 ^ 15) ∷ [])) (partitions (0 ∷ 0 ∷ []) ((10 ^ 15 - 1) ∷ 2 ∷ [])) (oneSegment (pos 0) 1_000) (refused 2)
+    ∷ edge (moduli ((10 ^ 15) ∷ [])) (partitions (0 ∷ 0 ∷ []) ((10 ^ 15 - 1) ∷ 2 ∷ [])) (oneSegment (pos 0) 1_000) (refuse 2)
     -- no segment, lists of one length
-    ∷ rowEdge (segments [] [] []) (refused 3)
-    ∷ rowEdge (segments (0 ∷ []) [] (10_000 ∷ [])) (refused 3)
-    ∷ rowEdge (segments (0 ∷ []) (pos 0 ∷ []) []) (refused 3)
+    ∷ rowEdge (segments [] [] []) (refuse 3)
+    ∷ rowEdge (segments (0 ∷ []) [] (10_000 ∷ [])) (refuse 3)
+    ∷ rowEdge (segments (0 ∷ []) (pos 0 ∷ []) []) (refuse 3)
     -- counts and times grow strictly; a segment may begin at the total
-    ∷ rowEdge (secondAt 0 (pos 1_000)) (refused 3)
-    ∷ rowEdge (secondAt 1 (negsuc 999)) (refused 3)
+    ∷ rowEdge (secondAt 0 (pos 1_000)) (refuse 3)
+    ∷ rowEdge (secondAt 1 (negsuc 999)) (refuse 3)
     ∷ rowEdge (secondAt 1_200 (pos 5_000)) grows
-    ∷ rowEdge (secondAt 1_201 (pos 5_000)) (refused 3)
+    ∷ rowEdge (secondAt 1_201 (pos 5_000)) (refuse 3)
     -- the rate: 1,000×MSF is 10,000
-    ∷ rowEdge (oneSegment (pos 0) 9_999) (refused 3)
+    ∷ rowEdge (oneSegment (pos 0) 9_999) (refuse 3)
     ∷ rowEdge (oneSegment (pos 0) 10_000) grows
     ∷ rowEdge (oneSegment (pos 0) (10 ^ 15)) grows
-    ∷ rowEdge (oneSegment (pos 0) (10 ^ 15 + 1)) (refused 3)
+    ∷ rowEdge (oneSegment (pos 0) (10 ^ 15 + 1)) (refuse 3)
     -- times at ±4×10^18; a line that reaches it, and one more; a line rounded up reaches one more
     ∷ rowEdge (oneSegment (negsuc (4 * 10 ^ 18 - 1)) 10_000) grows
-    ∷ rowEdge (oneSegment (negsuc (4 * 10 ^ 18)) 10_000) (refused 3)
+    ∷ rowEdge (oneSegment (negsuc (4 * 10 ^ 18)) 10_000) (refuse 3)
     ∷ rowEdge (secondAt 1_200 (pos (4 * 10 ^ 18))) grows
-    ∷ rowEdge (secondAt 1_200 (pos (4 * 10 ^ 18 + 1))) (refused 3)
+    ∷ rowEdge (secondAt 1_200 (pos (4 * 10 ^ 18 + 1))) (refuse 3)
     ∷ rowEdge (oneSegment (pos (4 * 10 ^ 18 - 1_200)) 10_000) grows
-    ∷ rowEdge (oneSegment (pos (4 * 10 ^ 18 - 1_200)) 10_001) (refused 3)
-    ∷ rowEdge (oneSegment (pos (4 * 10 ^ 18 - 1_199)) 10_000) (refused 3)
+    ∷ rowEdge (oneSegment (pos (4 * 10 ^ 18 - 1_200)) 10_001) (refuse 3)
+    ∷ rowEdge (oneSegment (pos (4 * 10 ^ 18 - 1_199)) 10_000) (refuse 3)
     -- a quotient of some 10^30, before any bound is known
-    ∷ rowEdge (segments (0 ∷ (2 ^ 64 - 1) ∷ []) (pos 0 ∷ pos 1 ∷ []) ((10 ^ 15) ∷ (10 ^ 15) ∷ [])) (refused 3)
+    ∷ rowEdge (segments (0 ∷ (2 ^ 64 - 1) ∷ []) (pos 0 ∷ pos 1 ∷ []) ((10 ^ 15) ∷ (10 ^ 15) ∷ [])) (refuse 3)
     ∷ []
 
 pub total-A : totalOf partitionsA ≡ 1_200
 unfolding totalOf lengthsBefore sumBelow partitionsA
 total-A = refl
 
-pub edges-hold : map (λ e. stepsBackIn (e .clock) (e .spans) (e .rows)) edges ≡ map (λ e. e .expected) edges
-unfolding allOf allBelow someBelow all product sumBelow roundUp later unless layoutOk productOf msfOf partitionsOk partitionOk totalOf lengthsBefore segmentsOk segmentOk rowOk growsAt lineOk lineAt segmentEnd unitOf stepsBack stepsBackAt stepsBackIn accepted layoutA partitionsA segmentsA slots layout moduli offset delimiter upTo oneSegment secondAt edge grows stepsBackward clockEdge spanEdge rowEdge edges
+pub edges-hold : map (λ e. stepsBackIn (e .layout) (e .spans) (e .rows)) edges ≡ map (λ e. e .expected) edges
+unfolding computing layoutA partitionsA segmentsA slots layout moduli offset delimiter upTo oneSegment secondAt edge grows stepsBackward layoutEdge spanEdge rowEdge edges
 edges-hold = refl

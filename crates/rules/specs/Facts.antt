@@ -22,7 +22,7 @@ use Rattle.rules.specs.Limits.{
 use Rattle.rules.specs.declared.Layout.{Layout}
 use Rattle.rules.specs.Layout.{moduliOf, offsetsOf, productOf, msfOf}
 use Rattle.rules.specs.Partitions.{Partitions, partitionsIn, startOf, endOf, totalOf}
-use Rattle.rules.specs.Segments.{Segments, segmentsIn, countOf, timeAt, rateOf, unitOf, lineAt, segmentEnd}
+use Rattle.rules.specs.Segments.{Segments, segmentsIn, rowOf, lineAt, segmentEnd}
 
 pub record LayoutFacts (l : Layout) : Type 0 where
   pub fields : 1 ≤ l .n
@@ -34,34 +34,34 @@ pub record LayoutFacts (l : Layout) : Type 0 where
   pub delimiter-low : 1 ≤ l .delimiter
   pub delimiter-high : l .delimiter ≤ lastDelimiter
 
-pub record PartitionFacts (l : Layout) (p : Partitions) (i : ℕ) : Type 0 where
+pub record PartitionFacts (P : ℕ) (p : Partitions) (i : ℕ) : Type 0 where
   pub ordered : startOf p i < endOf p i
-  pub in-range : endOf p i < productOf l
+  pub in-range : endOf p i < P
 
-pub record PartitionsFacts (l : Layout) (p : Partitions) : Type 0 where
+pub record PartitionsFacts (P : ℕ) (p : Partitions) : Type 0 where
   pub one-length : length (p .ends) ≡ partitionsIn p
   pub some : 1 ≤ partitionsIn p
   pub few : partitionsIn p ≤ mostPartitions
-  pub each : (i : ℕ) → i < partitionsIn p → PartitionFacts l p i
+  pub each : (i : ℕ) → i < partitionsIn p → PartitionFacts P p i
   pub total : totalOf p ≤ largestTotal
 
-pub record SegmentFacts (l : Layout) (p : Partitions) (g : Segments) (i : ℕ) : Type 0 where
-  pub early : leZ earliestTime (timeAt g i) ≡ true
-  pub late : leZ (timeAt g i) latestTime ≡ true
-  pub rate-low : unitOf l ≤ rateOf g i
-  pub rate-high : rateOf g i ≤ largestRate
-  pub line : leZ (lineAt l g i (segmentEnd p g i)) latestTime ≡ true
+pub record SegmentFacts (unit total : ℕ) (g : Segments) (i : ℕ) : Type 0 where
+  pub early : leZ earliestTime (rowOf g i .time) ≡ true
+  pub late : leZ (rowOf g i .time) latestTime ≡ true
+  pub rate-low : unit ≤ rowOf g i .rate
+  pub rate-high : rowOf g i .rate ≤ largestRate
+  pub line : leZ (lineAt unit (rowOf g i) (segmentEnd total g i)) latestTime ≡ true
 
 -- segment i + 1 begins after segment i, in count and in time
 pub record Grows (g : Segments) (i : ℕ) : Type 0 where
-  pub counts : countOf g i < countOf g (i + 1)
-  pub times : ltZ (timeAt g i) (timeAt g (i + 1)) ≡ true
+  pub counts : rowOf g i .count < rowOf g (i + 1) .count
+  pub times : ltZ (rowOf g i .time) (rowOf g (i + 1) .time) ≡ true
 
-pub record SegmentsFacts (l : Layout) (p : Partitions) (g : Segments) : Type 0 where
+pub record SegmentsFacts (unit total : ℕ) (g : Segments) : Type 0 where
   pub times-length : length (g .times) ≡ segmentsIn g
   pub rates-length : length (g .rates) ≡ segmentsIn g
   pub some : 1 ≤ segmentsIn g
   pub few : segmentsIn g ≤ mostSegments
-  pub last : countOf g (segmentsIn g - 1) ≤ totalOf p
-  pub each : (i : ℕ) → i < segmentsIn g → SegmentFacts l p g i
+  pub last : rowOf g (segmentsIn g - 1) .count ≤ total
+  pub each : (i : ℕ) → i < segmentsIn g → SegmentFacts unit total g i
   pub grow : (i : ℕ) → i + 1 < segmentsIn g → Grows g i

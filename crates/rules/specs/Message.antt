@@ -7,6 +7,7 @@ use lib.ListN.{length, getD, take, drop}
 use Rattle.base.specs.Scans.{allOf}
 use Rattle.rules.specs.Limits.{longestText}
 use Rattle.rules.specs.declared.Layout.{Layout}
+use Rattle.rules.specs.declared.Reading.{Reading}
 use Rattle.rules.specs.Partitions.{Partitions}
 use Rattle.rules.specs.Answer.{Answer, unless}
 use Rattle.rules.specs.Stamp.{readStamp}
@@ -30,5 +31,5 @@ unfoldable pub textIn : List ℕ → List ℕ
 textIn m = take (textLength m) (drop (length m - 2 - textLength m) m)
 
 -- The call: a message to its stamp's encoded count.
-unfoldable pub readMessage : Layout → Partitions → List ℕ → Answer ℕ
+unfoldable pub readMessage : Layout → Partitions → List ℕ → Answer Reading
 readMessage l p m = unless 17 (messageOk m) (readStamp l p (textIn m))

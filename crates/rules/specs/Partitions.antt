@@ -6,8 +6,6 @@ use lib.Dec.{leb, ltb, eqb}
 use lib.ListN.{length, getD}
 use Rattle.base.specs.Scans.{allOf, allBelow, sumBelow}
 use Rattle.rules.specs.Limits.{mostPartitions, largestTotal}
-use Rattle.rules.specs.declared.Layout.{Layout}
-use Rattle.rules.specs.Layout.{productOf}
 
 pub record Partitions : Type 0 where
   pub starts : List ℕ
@@ -39,16 +37,16 @@ unfoldable pub totalOf : Partitions → ℕ
 totalOf p = lengthsBefore p (partitionsIn p)
 
 -- "Each start is below its end, each end is at most P - 1."
-unfoldable pub partitionOk : Layout → Partitions → ℕ → Bool
-partitionOk l p i = allOf (ltb (startOf p i) (endOf p i) ∷ ltb (endOf p i) (productOf l) ∷ [])
+unfoldable pub partitionOk : ℕ → Partitions → ℕ → Bool
+partitionOk P p i = allOf (ltb (startOf p i) (endOf p i) ∷ ltb (endOf p i) P ∷ [])
 
 -- "of one length from 1 to 9,999 .. The sum of lengths .. is at most 10^15."
-unfoldable pub partitionsOk : Layout → Partitions → Bool
-partitionsOk l p =
+unfoldable pub partitionsOk : ℕ → Partitions → Bool
+partitionsOk P p =
     allOf
     (eqb (length (p .ends)) (partitionsIn p)
     ∷ leb 1 (partitionsIn p)
     ∷ leb (partitionsIn p) mostPartitions
-    ∷ allBelow (partitionOk l p) (partitionsIn p)
+    ∷ allBelow (partitionOk P p) (partitionsIn p)
     ∷ leb (totalOf p) largestTotal
     ∷ [])

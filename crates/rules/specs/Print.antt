@@ -79,7 +79,7 @@ printCount l c room = unless 1 (layoutOk l) (unless 9 (ltb c (productOf l)) (fit
 -- "12: encoded count above the total". Never 9: the count of an encoded count up to the total is below P (`StampCountBelowP` of roundtrip).
 unfoldable pub printStamp : Layout → Partitions → ℕ → ℕ → Answer (List ℕ)
 printStamp l p e room =
-    unless 1 (layoutOk l) (unless 2 (partitionsOk l p) (unless 12 (leb e (totalOf p)) (fitting room (stampPrint l p e))))
+    unless 1 (layoutOk l) (unless 2 (partitionsOk (productOf l) p) (unless 12 (leb e (totalOf p)) (fitting room (stampPrint l p e))))
 
 -- "the answer is its length"
 unfoldable pub lengthPrinted : Answer (List ℕ) → Answer ℕ

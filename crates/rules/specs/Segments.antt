@@ -1,4 +1,5 @@
 -- "Three lists of one length": count, time in nanoseconds, rate in picoseconds per first-field count.
+-- Of the layout a segment list is checked by the unit 1,000×MSF alone, of the partitions by the total.
 use Prim.Native.Nat.{ℕ, _+_, _-_, _*_}
 use mathlib.Core.Bool.{Bool, _&&_, _||_, cond}
 use mathlib.Core.List.{List, [], _∷_}
@@ -9,10 +10,8 @@ use lib.ListN.{length, getD}
 use Rattle.base.specs.Scans.{allOf, allBelow, someBelow}
 use Rattle.base.specs.Rounding.{roundUp}
 use Rattle.base.specs.Signed.{later}
-use Rattle.rules.specs.Limits.{mostSegments, earliestTime, latestTime, picoseconds, largestRate}
-use Rattle.rules.specs.declared.Layout.{Layout}
-use Rattle.rules.specs.Layout.{msfOf}
-use Rattle.rules.specs.Partitions.{Partitions, totalOf}
+use Rattle.rules.specs.Limits.{mostSegments, earliestTime, latestTime, largestRate}
+use Rattle.rules.specs.declared.Segment.{Segment}
 
 pub record Segments : Type 0 where
   pub counts : List ℕ
@@ -26,68 +25,61 @@ segments cs ts rs = record { counts = cs; times = ts; rates = rs }
 abbrev pub segmentsIn : Segments → ℕ
 segmentsIn g = length (g .counts)
 
-abbrev pub countOf : Segments → ℕ → ℕ
-countOf g i = getD (g .counts) i 0
-
-abbrev pub timeAt : Segments → ℕ → ℤ
-timeAt g i = getD (g .times) i (pos 0)
-
-abbrev pub rateOf : Segments → ℕ → ℕ
-rateOf g i = getD (g .rates) i 0
-
--- 1,000×MSF: a rate over it is a tick in nanoseconds
-unfoldable pub unitOf : Layout → ℕ
-unitOf l = picoseconds * msfOf l
+-- segment i, from 0
+abbrev pub rowOf : Segments → ℕ → Segment
+rowOf g i = record { count = getD (g .counts) i 0; time = getD (g .times) i (pos 0); rate = getD (g .rates) i 0 }
 
 -- segment i has a next one
 abbrev pub hasNext : Segments → ℕ → Bool
 hasNext g i = ltb (i + 1) (segmentsIn g)
 
 -- "Each segment ends at the next one's count, the last at the total"
-unfoldable pub segmentEnd : Partitions → Segments → ℕ → ℕ
-segmentEnd p g i = cond (hasNext g i) (countOf g (i + 1)) (totalOf p)
+unfoldable pub segmentEnd : ℕ → Segments → ℕ → ℕ
+segmentEnd total g i = cond (hasNext g i) (rowOf g (i + 1) .count) total
 
--- The time that segment i's own line reaches at the count e, rounded up: time(i) + rate(i)×(e - count(i)) / (1,000×MSF).
-unfoldable pub lineAt : Layout → Segments → ℕ → ℕ → ℤ
-lineAt l g i e = later (timeAt g i) (roundUp (rateOf g i * (e - countOf g i)) (unitOf l))
+-- The time that a segment's own line reaches at the count e, rounded up: time + rate×(e - count) / (1,000×MSF).
+unfoldable pub lineAt : ℕ → Segment → ℕ → ℤ
+lineAt unit s e = later (s .time) (roundUp (s .rate * (e - s .count)) unit)
 
--- "Counts grow strictly" and "Times grow strictly": row i against the row before it
+-- What one row must meet by itself. "Times .. lie within ±4×10^18. A rate lies from 1,000×MSF to 10^15"
+unfoldable pub rowOk : ℕ → Segment → Bool
+rowOk unit s =
+    allOf (leZ earliestTime (s .time) ∷ leZ (s .time) latestTime ∷ leb unit (s .rate) ∷ leb (s .rate) largestRate ∷ [])
+
+-- Against the row before it. "Counts grow strictly", "Times grow strictly"
+unfoldable pub follows : Segment → Segment → Bool
+follows before s = allOf (ltb (before .count) (s .count) ∷ ltZ (before .time) (s .time) ∷ [])
+
+-- the first row follows none
 unfoldable pub growsAt : Segments → ℕ → Bool
-growsAt g i = eqb i 0 || allOf (ltb (countOf g (i - 1)) (countOf g i) ∷ ltZ (timeAt g (i - 1)) (timeAt g i) ∷ [])
+growsAt g i = eqb i 0 || follows (rowOf g (i - 1)) (rowOf g i)
 
--- "Times .. lie within ±4×10^18. A rate lies from 1,000×MSF to 10^15"
-unfoldable pub rowOk : Layout → Segments → ℕ → Bool
-rowOk l g i =
-    allOf
-    (leZ earliestTime (timeAt g i)
-    ∷ leZ (timeAt g i) latestTime
-    ∷ leb (unitOf l) (rateOf g i)
-    ∷ leb (rateOf g i) largestRate
-    ∷ [])
+-- Its line to its end. "the time reached there by the segment's own line, rounded up, is at most 4×10^18"
+unfoldable pub lineOk : ℕ → Segment → ℕ → Bool
+lineOk unit s end = leZ (lineAt unit s end) latestTime
 
--- "the time reached there by the segment's own line, rounded up, is at most 4×10^18"
-unfoldable pub lineOk : Layout → Partitions → Segments → ℕ → Bool
-lineOk l p g i = leZ (lineAt l g i (segmentEnd p g i)) latestTime
-
-unfoldable pub segmentOk : Layout → Partitions → Segments → ℕ → Bool
-segmentOk l p g i = allOf (rowOk l g i ∷ growsAt g i ∷ lineOk l p g i ∷ [])
+unfoldable pub segmentOk : ℕ → ℕ → Segments → ℕ → Bool
+segmentOk unit total g i = allOf (rowOk unit (rowOf g i) ∷ growsAt g i ∷ lineOk unit (rowOf g i) (segmentEnd total g i) ∷ [])
 
 -- "of one length, 1 to 10,000 .. the last [count] is at most the total"
-unfoldable pub segmentsOk : Layout → Partitions → Segments → Bool
-segmentsOk l p g =
+unfoldable pub segmentsOk : ℕ → ℕ → Segments → Bool
+segmentsOk unit total g =
     allOf
     (eqb (length (g .times)) (segmentsIn g)
     ∷ eqb (length (g .rates)) (segmentsIn g)
     ∷ leb 1 (segmentsIn g)
     ∷ leb (segmentsIn g) mostSegments
-    ∷ leb (countOf g (segmentsIn g - 1)) (totalOf p)
-    ∷ allBelow (segmentOk l p g) (segmentsIn g)
+    ∷ leb (rowOf g (segmentsIn g - 1) .count) total
+    ∷ allBelow (segmentOk unit total g) (segmentsIn g)
     ∷ [])
 
--- segment i's line, rounded up, at the next segment's count is later than the next segment's time; equal is no step back
-unfoldable pub stepsBackAt : Layout → Segments → ℕ → Bool
-stepsBackAt l g i = hasNext g i && ltZ (timeAt g (i + 1)) (lineAt l g i (countOf g (i + 1)))
+-- a line, rounded up, at the next segment's count is later than the next segment's time; equal is no step back
+unfoldable pub overtakes : ℕ → Segment → Segment → Bool
+overtakes unit s next = ltZ (next .time) (lineAt unit s (next .count))
+
+unfoldable pub stepsBackAt : ℕ → Segments → ℕ → Bool
+stepsBackAt unit g i = hasNext g i && overtakes unit (rowOf g i) (rowOf g (i + 1))
 
 -- "A table steps back if some segment's line .." (the paper's term)
-unfoldable pub stepsBack : Layout → Segments → Bool
-stepsBack l g = someBelow (stepsBackAt l g) (segmentsIn g)
+unfoldable pub stepsBack : ℕ → Segments → Bool
+stepsBack unit g = someBelow (stepsBackAt unit g) (segmentsIn g)

@@ -8,10 +8,11 @@ use lib.ListN.{length, getD, take, drop}
 use Rattle.base.specs.Scans.{all, firstBelow}
 use Rattle.rules.specs.Limits.{longestText}
 use Rattle.rules.specs.declared.Layout.{Layout}
-use Rattle.rules.specs.Layout.{layoutOk}
+use Rattle.rules.specs.declared.Reading.{Reading}
+use Rattle.rules.specs.Layout.{layoutOk, moduliOf, offsetsOf, productOf}
 use Rattle.rules.specs.Partitions.{Partitions, partitionsIn, startOf, endOf, lengthsBefore, partitionsOk}
-use Rattle.rules.specs.Answer.{Answer, answer, refused, unless, andThen}
-use Rattle.rules.specs.Text.{Field, isAllowed, isPresent, valueOf, fieldsOf, fieldsCount}
+use Rattle.rules.specs.Answer.{Answer, answer, refuse, unless, andThen, reading}
+use Rattle.rules.specs.Text.{Field, isAllowed, isPresent, valueOf, fieldsOf, bytesCount}
 
 -- where the first `/` stands
 unfoldable pub slashIn : List ℕ → Option ℕ
@@ -53,22 +54,35 @@ encodeNamed p k c =
 -- "Without one, the partition is the first whose start..end .. holds the count; refused exactly if no partition holds it."
 unfoldable pub encodeFound : Partitions → ℕ → Option ℕ → Answer ℕ
 encodeFound p c (some i) = answer (encodedIn p c i)
-encodeFound p c none = refused 11
+encodeFound p c none = refuse 11
 
 unfoldable pub encodeFirst : Partitions → ℕ → Answer ℕ
 encodeFirst p c = encodeFound p c (firstBelow (holds p c) (partitionsIn p))
 
--- a stamp by whether it has a `/`: 5, then what the fields refuse, then 10 and 11
-unfoldable pub stampAt : Layout → Partitions → List ℕ → Option ℕ → Answer ℕ
-stampAt l p s none = unless 5 (all isAllowed s) (andThen (fieldsCount l (fieldsOf s)) (encodeFirst p))
-stampAt l p s (some i) =
-    unless 5 (frontOk (take i s) && all isAllowed (drop (i + 1) s))
-    (andThen (fieldsCount l (fieldsOf (drop (i + 1) s))) (encodeNamed p (frontNumber (take i s))))
+-- A stamp as it is written: the partition's number where one stands in front, and what its clock text gives.
+pub data Parsed : Type 0 where
+  named : ℕ → Reading → Parsed
+  unnamed : Reading → Parsed
+
+-- by whether it has a `/`: 5, then what the fields refuse
+unfoldable pub parsedAt : List ℕ → List ℕ → List ℕ → Option ℕ → Answer Parsed
+parsedAt ms os s none = andThen (bytesCount ms os s) (λ r. answer (unnamed r))
+parsedAt ms os s (some i) =
+    unless 5 (frontOk (take i s))
+    (andThen (bytesCount ms os (drop (i + 1) s)) (λ r. answer (named (frontNumber (take i s)) r)))
+
+-- a stamp by the moduli and offsets: 4, 5 and the rest
+unfoldable pub parseStamp : List ℕ → List ℕ → List ℕ → Answer Parsed
+parseStamp ms os s = unless 4 (leb (length s) longestText) (parsedAt ms os s (slashIn s))
+
+-- then 10 and 11
+unfoldable pub encode : Partitions → Parsed → Answer Reading
+encode p (named k r) = andThen (encodeNamed p k (r .count)) (λ e. answer (reading e))
+encode p (unnamed r) = andThen (encodeFirst p (r .count)) (λ e. answer (reading e))
 
 -- The call: a stamp, with or without a partition, to its encoded count. 1 and 2, then 4, 5 and the rest.
-unfoldable pub readStamp : Layout → Partitions → List ℕ → Answer ℕ
+unfoldable pub readStamp : Layout → Partitions → List ℕ → Answer Reading
 readStamp l p s =
     unless 1 (layoutOk l)
-    (unless 2 (partitionsOk l p)
-    (unless 4 (leb (length s) longestText)
-    (stampAt l p s (slashIn s))))
+    (unless 2 (partitionsOk (productOf l) p)
+    (andThen (parseStamp (moduliOf l) (offsetsOf l) s) (encode p)))

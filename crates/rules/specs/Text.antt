@@ -7,8 +7,9 @@ use lib.ListN.{length}
 use Rattle.base.specs.Scans.{all, product}
 use Rattle.rules.specs.Limits.{longestText, largestField, largestCount}
 use Rattle.rules.specs.declared.Layout.{Layout}
+use Rattle.rules.specs.declared.Reading.{Reading}
 use Rattle.rules.specs.Layout.{moduliOf, offsetsOf, layoutOk}
-use Rattle.rules.specs.Answer.{Answer, answer, unless}
+use Rattle.rules.specs.Answer.{Answer, answer, unless, reading}
 
 -- bytes 48 to 57
 abbrev pub isDigit : ℕ → Bool
@@ -112,24 +113,28 @@ unfoldable pub notBelow : Field → ℕ → Bool
 notBelow f o = cond (isPresent f) (leb o (valueOf f)) true
 
 -- "then fields left to right, 9 before 8 in each", and then what follows
-unfoldable pub eachField : List Field → List ℕ → Answer ℕ → Answer ℕ
+unfoldable pub eachField : List Field → List ℕ → Answer Reading → Answer Reading
 eachField [] os a = a
 eachField (f ∷ fs) [] a = a
 eachField (f ∷ fs) (o ∷ os) a = unless 9 (notAbove f) (unless 8 (notBelow f o) (eachField fs os a))
 
--- "7; 6; then fields left to right, 9 before 8 in each; the sum's 9", and the count
-unfoldable pub fieldsCount : Layout → List Field → Answer ℕ
-fieldsCount l fs =
-    unless 7 (leb (length fs) (l .n))
+-- "7; 6; then fields left to right, 9 before 8 in each; the sum's 9", and the count: fields by n moduli and n offsets
+unfoldable pub fieldsCount : List ℕ → List ℕ → List Field → Answer Reading
+fieldsCount ms os fs =
+    unless 7 (leb (length fs) (length ms))
     (unless 6 (firstPresent fs)
-    (eachField fs (offsetsOf l)
-    (unless 9 (leb (sumOf fs (moduliOf l) (offsetsOf l)) largestCount)
-    (answer (sumOf fs (moduliOf l) (offsetsOf l))))))
+    (eachField fs os
+    (unless 9 (leb (sumOf fs ms os) largestCount)
+    (answer (reading (sumOf fs ms os))))))
 
--- The call: clock text without partition to its count. 1, then 4, 5 and what the fields refuse.
-unfoldable pub readText : Layout → List ℕ → Answer ℕ
-readText l s =
-    unless 1 (layoutOk l)
-    (unless 4 (leb (length s) longestText)
-    (unless 5 (all isAllowed s)
-    (fieldsCount l (fieldsOf s))))
+-- 5, and what the fields refuse
+unfoldable pub bytesCount : List ℕ → List ℕ → List ℕ → Answer Reading
+bytesCount ms os s = unless 5 (all isAllowed s) (fieldsCount ms os (fieldsOf s))
+
+-- clock text by the moduli and offsets: 4, 5 and the rest
+unfoldable pub parseText : List ℕ → List ℕ → List ℕ → Answer Reading
+parseText ms os s = unless 4 (leb (length s) longestText) (bytesCount ms os s)
+
+-- The call: clock text without partition to its count.
+unfoldable pub readText : Layout → List ℕ → Answer Reading
+readText l s = unless 1 (layoutOk l) (parseText (moduliOf l) (offsetsOf l) s)

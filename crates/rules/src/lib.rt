@@ -1,11 +1,11 @@
-// The types that the definitions name: a clock's layout with its limits, and what the calls answer.
+// The types that the definitions name: a clock's layout with its limits, one segment, a refusal, and what the calls answer.
 
 // A clock's fields: n moduli and n offsets, and the code of the output delimiter.
 // Slots after the n-th are not looked at.
 pub struct Layout {
     pub n: usize,
-    pub moduli: [u64; 10],
-    pub offsets: [u64; 10],
+    pub moduli: [u64; Layout::MOST_FIELDS],
+    pub offsets: [u64; Layout::MOST_FIELDS],
     pub delimiter: u8,
 }
 
@@ -19,33 +19,80 @@ impl Layout {
     pub const LARGEST_OFFSET: u64 = 1_000;
 }
 
-// A count, or the number of a refusal.
-pub enum CountAnswer {
-    Count(u64),
-    Refused(u64),
+// One row of a segment table: time in nanoseconds, rate in picoseconds per first-field count.
+pub struct Segment {
+    pub count: u64,
+    pub time: i64,
+    pub rate: u64,
 }
 
-// A time in nanoseconds, or the number of a refusal.
+// A segment in doubles: time in seconds, rate in seconds per first-field count.
+pub struct DoubleSegment {
+    pub count: f64,
+    pub time: f64,
+    pub rate: f64,
+}
+
+// Why a call gives no answer: a number of document 01's table.
+pub struct Refusal {
+    pub number: u64,
+}
+
+// What reading gives: the count of a text, the encoded count of a stamp or a message.
+pub struct Reading {
+    pub count: u64,
+}
+
+pub enum ReadAnswer {
+    Read(Reading),
+    Refused(Refusal),
+}
+
+// What count to time gives, in nanoseconds.
+pub struct TimeOfCount {
+    pub time: i64,
+}
+
 pub enum TimeAnswer {
-    Time(i64),
-    Refused(u64),
+    Time(TimeOfCount),
+    Refused(Refusal),
 }
 
-// How many bytes were printed, or the number of a refusal.
+// What time to count gives: an encoded count.
+pub struct CountAtTime {
+    pub count: u64,
+}
+
+pub enum CountAnswer {
+    Count(CountAtTime),
+    Refused(Refusal),
+}
+
+// A stamp's encoded count, and its time.
+pub struct TimedStamp {
+    pub count: u64,
+    pub time: i64,
+}
+
+pub enum StampAnswer {
+    Stamp(TimedStamp),
+    Refused(Refusal),
+}
+
+// How many bytes were printed.
 pub enum PrintAnswer {
     Length(usize),
-    Refused(u64),
+    Refused(Refusal),
 }
 
-// Whether a table steps back, or the number of a refusal.
+// Whether a table steps back.
 pub enum StepsBackAnswer {
     Yes,
     No,
-    Refused(u64),
+    Refused(Refusal),
 }
 
-// A double, or the number of a refusal.
 pub enum DoubleAnswer {
     Double(f64),
-    Refused(u64),
+    Refused(Refusal),
 }

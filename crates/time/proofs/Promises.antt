@@ -17,7 +17,7 @@ use Rattle.rules.specs.declared.Layout.{Layout}
 use Rattle.rules.specs.Answer.{Answer, answer}
 use Rattle.rules.specs.Layout.{layoutOk}
 use Rattle.rules.specs.Partitions.{Partitions, totalOf, partitionsOk}
-use Rattle.rules.specs.Segments.{Segments, countOf, timeAt, rateOf, unitOf, lineAt, segmentsOk}
+use Rattle.rules.specs.Segments.{Segments, rowOf, unitOf, lineAt, segmentsOk}
 use Rattle.rules.specs.Facts.{LayoutFacts, SegmentsFacts}
 use Rattle.rules.specs.Time.{accepted, segmentOf, segmentAt, timeIn, timeOf, countIn, countAt, lineCount, stoppedAt}
 use Rattle.rules.proofs.Accepted.{layout-facts, segments-facts}
@@ -59,7 +59,7 @@ time-is-nearest l p g e t h =
     let w = passed l p g _ t h in
     let f = time-found l g e t (segmentOf g e) (unless-rest 12 (leb e (totalOf p)) _ t (w .rest)) in
     let u = unit-low l (w .layout) in
-    let x : ℕ = rateOf g (f .0) * (e - countOf g (f .0)) in
+    let x : ℕ = rowOf g (f .0) .rate * (e - rowOf g (f .0) .count) in
     (f .0, roundUp x (unitOf l), f .1, f .2, record { at-or-after = up-above x (unitOf l) u; less-than-one-late = up-below x (unitOf l) u })
 
 pub count-is-nearest : CountIsNearest
@@ -67,9 +67,9 @@ unfolding countAt lineCount
 count-is-nearest l p g t c h =
     let w = passed l p g _ c h in
     let f = count-found l p g t c (segmentAt g t) (unless-rest 14 (leZ earliestTime t && leZ t latestTime) _ c (w .rest)) in
-    let r : 0 < rateOf g (f .0) = positive (unit-low l (w .layout)) (w .segments .each (f .0) (time-row-in l (w .layout) p g (w .segments) t (f .0) (f .1)) .rate-low) in
-    let x : ℕ = elapsed (timeAt g (f .0)) t * unitOf l in
-    (f .0, roundDown x (rateOf g (f .0)), f .1, f .2, record { at-or-before = down-below x (rateOf g (f .0)); less-than-one-early = down-above x (rateOf g (f .0)) r })
+    let r : 0 < rowOf g (f .0) .rate = positive (unit-low l (w .layout)) (w .segments .each (f .0) (time-row-in l (w .layout) p g (w .segments) t (f .0) (f .1)) .rate-low) in
+    let x : ℕ = elapsed (rowOf g (f .0) .time) t * unitOf l in
+    (f .0, roundDown x (rowOf g (f .0) .rate), f .1, f .2, record { at-or-before = down-below x (rowOf g (f .0) .rate); less-than-one-early = down-above x (rowOf g (f .0) .rate) r })
   where
     positive : {u r : ℕ} → 1 ≤ u → u ≤ r → 0 < r
     positive a b = omega arith
@@ -97,7 +97,7 @@ time-in-range l p g e t h =
     let f = time-found l g e t (segmentOf g e) (unless-rest 12 (leb e (totalOf p)) _ t (w .rest)) in
     let i = f .0 in
     let row = row-in l (w .layout) p g (w .segments) e i (f .1) total in (
-      rw (f .2) (later-early (timeAt g i) _ (w .segments .each i row .early)),
+      rw (f .2) (later-early (rowOf g i .time) _ (w .segments .each i row .early)),
       rw (f .2) (reached l (w .layout) p g (w .segments) e i (f .1) total),
     )
 
@@ -106,5 +106,5 @@ twelve-not-thirteen l p g h e above =
     let f = segments-facts l p g h in
     omega (arith, count-below-total f, above)
   where
-    count-below-total : SegmentsFacts l p g → countOf g 0 ≤ totalOf p
+    count-below-total : SegmentsFacts l p g → rowOf g 0 .count ≤ totalOf p
     count-below-total f = count-below l p g f 0 (omega (arith, f .some))

@@ -18,7 +18,7 @@ use Rattle.rules.specs.Limits.{latestTime, earliestTime}
 use Rattle.rules.specs.declared.Layout.{Layout}
 use Rattle.rules.specs.Layout.{msfOf, moduliOf}
 use Rattle.rules.specs.Partitions.{Partitions, totalOf}
-use Rattle.rules.specs.Segments.{Segments, segmentsIn, countOf, timeAt, rateOf, unitOf, lineAt, segmentEnd}
+use Rattle.rules.specs.Segments.{Segments, segmentsIn, rowOf, unitOf, lineAt, segmentEnd}
 use Rattle.rules.specs.Facts.{LayoutFacts, SegmentsFacts}
 use Rattle.rules.specs.Time.{segmentOf, segmentAt}
 use Rattle.segment_line.specs.Line.{Forward, Back}
@@ -57,16 +57,16 @@ time-small (negsuc n) a b = let w : n ≤ 3_999_999_999_999_999_999 = leb-true n
 
 module _ (l : Layout) (p : Partitions) (g : Segments) (fg : SegmentsFacts l p g) where
   -- counts grow
-  counts-up : (d i : ℕ) → i + d < segmentsIn g → countOf g i ≤ countOf g (i + d)
+  counts-up : (d i : ℕ) → i + d < segmentsIn g → rowOf g i .count ≤ rowOf g (i + d) .count
   counts-up zero i h = let e : i + 0 ≡ i = omega arith in rw e (native.Mathlib.Nat.le-refl _)
   counts-up (suc d) i h =
       let e : i + suc d ≡ i + d + 1 = omega arith in
       rw e (omega (arith, counts-up d i (omega arith), fg .grow (i + d) (omega arith) .counts))
 
-  pub count-below : (i : ℕ) → i < segmentsIn g → countOf g i ≤ totalOf p
+  pub count-below : (i : ℕ) → i < segmentsIn g → rowOf g i .count ≤ totalOf p
   count-below i h =
       let e : i + (segmentsIn g - 1 - i) ≡ segmentsIn g - 1 = omega arith in
-      let w : countOf g i ≤ countOf g (i + (segmentsIn g - 1 - i)) = counts-up (segmentsIn g - 1 - i) i (omega arith) in
+      let w : rowOf g i .count ≤ rowOf g (i + (segmentsIn g - 1 - i)) .count = counts-up (segmentsIn g - 1 - i) i (omega arith) in
       omega (arith, (rw e at w), fg .last)
 
 module _ (l : Layout) (fl : LayoutFacts l) where
@@ -85,7 +85,7 @@ module _ (l : Layout) (fl : LayoutFacts l) where
       unfolding segmentOf
       row-in = last-found _ _ i found .below
 
-      row-begun : countOf g i ≤ e
+      row-begun : rowOf g i .count ≤ e
       unfolding segmentOf
       row-begun = leb-true _ _ (last-found _ _ i found .holds)
 
@@ -93,21 +93,21 @@ module _ (l : Layout) (fl : LayoutFacts l) where
       unfolding segmentOf segmentEnd
       ends-after =
           by-test (ltb (i + 1) (segmentsIn g))
-          (λ t. rw t (before (leb-false (countOf g (i + 1)) e (last-found _ _ i found .after (i + 1) (omega arith) (ltb-true _ _ t)))))
+          (λ t. rw t (before (leb-false (rowOf g (i + 1) .count) e (last-found _ _ i found .after (i + 1) (omega arith) (ltb-true _ _ t)))))
           (λ f. rw f in-total)
         where
-          before : e < countOf g (i + 1) → e ≤ countOf g (i + 1)
+          before : e < rowOf g (i + 1) .count → e ≤ rowOf g (i + 1) .count
           before h = omega arith
 
       pub reached : leZ (lineAt l g i e) latestTime ≡ true
       unfolding lineAt
       reached =
-          later-down (timeAt g i) _ _ _
-          (up-grows (rateOf g i * (e - countOf g i)) (rateOf g i * (segmentEnd p g i - countOf g i)) (unitOf l) unit-low
-          (mul-le-mul-left (rateOf g i) (omega (arith, ends-after))))
+          later-down (rowOf g i .time) _ _ _
+          (up-grows (rowOf g i .rate * (e - rowOf g i .count)) (rowOf g i .rate * (segmentEnd p g i - rowOf g i .count)) (unitOf l) unit-low
+          (mul-le-mul-left (rowOf g i .rate) (omega (arith, ends-after))))
           (fg .each i row-in .line)
 
-      pub row-forward : Forward (unitOf l) (countOf g i) (timeAt g i) (rateOf g i) e
+      pub row-forward : Forward (unitOf l) (rowOf g i .count) (rowOf g i .time) (rowOf g i .rate) e
       unfolding lineAt
       row-forward =
           record {
@@ -115,8 +115,8 @@ module _ (l : Layout) (fl : LayoutFacts l) where
             unit-high = omega (arith, unit-high);
             begun = row-begun;
             reached =
-                later-small (2 ^ 63) 4_000_000_000_000_000_000 (timeAt g i) _ (omega arith)
-                (time-small (timeAt g i) (fg .each i row-in .early) (fg .each i row-in .late)) reached;
+                later-small (2 ^ 63) 4_000_000_000_000_000_000 (rowOf g i .time) _ (omega arith)
+                (time-small (rowOf g i .time) (fg .each i row-in .early) (fg .each i row-in .late)) reached;
           }
 
     -- the time of a segment's line
@@ -125,7 +125,7 @@ module _ (l : Layout) (fl : LayoutFacts l) where
       unfolding segmentAt
       time-row-in = last-found _ _ i found .below
 
-      pub row-back : Back (unitOf l) (timeAt g i) (rateOf g i) t
+      pub row-back : Back (unitOf l) (rowOf g i .time) (rowOf g i .rate) t
       unfolding segmentAt
       row-back =
           record {

@@ -10,33 +10,33 @@ use Rattle.base.specs.Signed.{later, elapsed}
 use Rattle.rules.specs.declared.Layout.{Layout}
 use Rattle.rules.specs.Answer.{answer}
 use Rattle.rules.specs.Partitions.{Partitions, totalOf}
-use Rattle.rules.specs.Segments.{Segments, segmentsIn, countOf, timeAt, rateOf, unitOf, segmentsOk}
+use Rattle.rules.specs.Segments.{Segments, segmentsIn, rowOf, unitOf, segmentsOk}
 use Rattle.rules.specs.Time.{segmentOf, segmentAt, stoppedAt, timeOf, countAt}
 
 -- The answer t is d after the segment's time. "The first whole nanosecond at or after" the exact time rate×(e - count) / unit:
 -- d is at or after it, and d - 1 is before it, "so it is less than 1 ns late".
 pub record FirstAtOrAfter (l : Layout) (g : Segments) (e i d : ℕ) : Type 0 where
-  pub at-or-after : rateOf g i * (e - countOf g i) ≤ d * unitOf l
-  pub less-than-one-late : d * unitOf l < rateOf g i * (e - countOf g i) + unitOf l
+  pub at-or-after : rowOf g i .rate * (e - rowOf g i .count) ≤ d * unitOf l
+  pub less-than-one-late : d * unitOf l < rowOf g i .rate * (e - rowOf g i .count) + unitOf l
 
 abbrev pub TimeIsNearest : Type 0
 TimeIsNearest =
     (l : Layout) (p : Partitions) (g : Segments) (e : ℕ) (t : ℤ) → timeOf l p g e ≡ answer t
-    → (i : ℕ) × (d : ℕ) × (segmentOf g e ≡ some i) × (t ≡ later (timeAt g i) d) × FirstAtOrAfter l g e i d
+    → (i : ℕ) × (d : ℕ) × (segmentOf g e ≡ some i) × (t ≡ later (rowOf g i .time) d) × FirstAtOrAfter l g e i d
 
 -- q ticks after the segment's count: the last whole tick at or before (T - time)×unit / rate
 pub record LastAtOrBefore (l : Layout) (g : Segments) (t : ℤ) (i q : ℕ) : Type 0 where
-  pub at-or-before : q * rateOf g i ≤ elapsed (timeAt g i) t * unitOf l
-  pub less-than-one-early : elapsed (timeAt g i) t * unitOf l < (q + 1) * rateOf g i
+  pub at-or-before : q * rowOf g i .rate ≤ elapsed (rowOf g i .time) t * unitOf l
+  pub less-than-one-early : elapsed (rowOf g i .time) t * unitOf l < (q + 1) * rowOf g i .rate
 
 abbrev pub CountIsNearest : Type 0
 CountIsNearest =
     (l : Layout) (p : Partitions) (g : Segments) (t : ℤ) (c : ℕ) → countAt l p g t ≡ answer c
-    → (i : ℕ) × (q : ℕ) × (segmentAt g t ≡ some i) × (c ≡ stoppedAt g i (countOf g i + q)) × LastAtOrBefore l g t i q
+    → (i : ℕ) × (q : ℕ) × (segmentAt g t ≡ some i) × (c ≡ stoppedAt g i (rowOf g i .count + q)) × LastAtOrBefore l g t i q
 
 -- "A rate lies from 1,000×MSF .., so a tick lasts at least 1 ns."
 abbrev pub TickLasts : Type 0
-TickLasts = (l : Layout) (p : Partitions) (g : Segments) → segmentsOk l p g ≡ true → (i : ℕ) → i < segmentsIn g → unitOf l ≤ rateOf g i
+TickLasts = (l : Layout) (p : Partitions) (g : Segments) → segmentsOk l p g ≡ true → (i : ℕ) → i < segmentsIn g → unitOf l ≤ rowOf g i .rate
 
 -- So that 14 never comes from count to time: an answer lies within ±4×10^18.
 abbrev pub TimeInRange : Type 0
@@ -45,4 +45,4 @@ TimeInRange =
 
 -- 12 and 13 never both hold: a count above the total is not before the first segment.
 abbrev pub TwelveNotThirteen : Type 0
-TwelveNotThirteen = (l : Layout) (p : Partitions) (g : Segments) → segmentsOk l p g ≡ true → (e : ℕ) → totalOf p < e → countOf g 0 ≤ e
+TwelveNotThirteen = (l : Layout) (p : Partitions) (g : Segments) → segmentsOk l p g ≡ true → (e : ℕ) → totalOf p < e → rowOf g 0 .count ≤ e

@@ -11,12 +11,12 @@ use Rattle.base.specs.Rounding.{roundUp, roundDown}
 use Rattle.base.specs.Signed.{later, elapsed}
 use Rattle.rules.specs.Limits.{earliestTime, latestTime}
 use Rattle.rules.specs.Answer.{Answer, answer, refused, unless}
-use Rattle.rules.specs.Segments.{Segments, segmentsIn, countOf, timeAt, rateOf}
+use Rattle.rules.specs.Segments.{Segments, segmentsIn, rowOf}
 use Rattle.rules.specs.Time.{segmentOf, segmentAt, stoppedAt}
 use Rattle.segment_line.specs.Line.{Forward, Back}
 
 unfoldable pub timeFound : ℕ → Segments → ℕ → Option ℕ → Answer ℤ
-timeFound unit g e (some i) = answer (later (timeAt g i) (roundUp (rateOf g i * (e - countOf g i)) unit))
+timeFound unit g e (some i) = answer (later (rowOf g i .time) (roundUp (rowOf g i .rate * (e - rowOf g i .count)) unit))
 timeFound unit g e none = refused 13
 
 unfoldable pub timeWithin : ℕ → ℕ → Segments → ℕ → Answer ℤ
@@ -24,10 +24,10 @@ timeWithin unit total g e = unless 12 (leb e total) (timeFound unit g e (segment
 
 -- q ticks after the count of segment i, stopped below the next count: "14 for the answer"
 unfoldable pub countOn : ℕ → Segments → ℕ → ℕ → Answer ℕ
-countOn total g i q = unless 14 (leb (stoppedAt g i (countOf g i + q)) total) (answer (stoppedAt g i (countOf g i + q)))
+countOn total g i q = unless 14 (leb (stoppedAt g i (rowOf g i .count + q)) total) (answer (stoppedAt g i (rowOf g i .count + q)))
 
 unfoldable pub countFound : ℕ → ℕ → Segments → ℤ → Option ℕ → Answer ℕ
-countFound unit total g t (some i) = countOn total g i (roundDown (elapsed (timeAt g i) t * unit) (rateOf g i))
+countFound unit total g t (some i) = countOn total g i (roundDown (elapsed (rowOf g i .time) t * unit) (rowOf g i .rate))
 countFound unit total g t none = refused 13
 
 unfoldable pub countWithin : ℕ → ℕ → Segments → ℤ → Answer ℕ
@@ -50,7 +50,7 @@ pub record TimeRow (g : Segments) (t : ℤ) (row : ℕ) : Type 0 where
 pub record Usable (unit total : ℕ) (g : Segments) : Type 0 where
   pub times-length : length (g .times) ≡ segmentsIn g
   pub rates-length : length (g .rates) ≡ segmentsIn g
-  pub forward : (e i : ℕ) → segmentOf g e ≡ some i → e ≤ total → Forward unit (countOf g i) (timeAt g i) (rateOf g i) e
-  pub back : (t : ℤ) (i : ℕ) → segmentAt g t ≡ some i → Back unit (timeAt g i) (rateOf g i) t
-  pub in-total : (i : ℕ) → i < segmentsIn g → countOf g i ≤ total
-  pub counts-grow : (i : ℕ) → i + 1 < segmentsIn g → countOf g i < countOf g (i + 1)
+  pub forward : (e i : ℕ) → segmentOf g e ≡ some i → e ≤ total → Forward unit (rowOf g i .count) (rowOf g i .time) (rowOf g i .rate) e
+  pub back : (t : ℤ) (i : ℕ) → segmentAt g t ≡ some i → Back unit (rowOf g i .time) (rowOf g i .rate) t
+  pub in-total : (i : ℕ) → i < segmentsIn g → rowOf g i .count ≤ total
+  pub counts-grow : (i : ℕ) → i + 1 < segmentsIn g → rowOf g i .count < rowOf g (i + 1) .count

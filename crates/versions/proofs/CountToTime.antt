@@ -11,7 +11,7 @@ use Rattle.base.proofs.Scans.{last-found}
 use Rattle.rules.specs.declared.Layout.{Layout}
 use Rattle.rules.specs.Answer.{unless}
 use Rattle.rules.specs.Partitions.{Partitions, totalOf}
-use Rattle.rules.specs.Segments.{Segments, segmentsIn, countOf, lineAt}
+use Rattle.rules.specs.Segments.{Segments, segmentsIn, rowOf, lineAt}
 use Rattle.rules.specs.Time.{segmentOf, timeIn}
 use Rattle.versions.specs.Versions.{Agree, countRefusals}
 use Rattle.versions.proofs.Agreement.{agree-same, agree-refused}
@@ -28,14 +28,14 @@ module _ (l k : Layout) (p q : Partitions) (g h : Segments) (one : OneLayout l k
   segment-same : (e : ℕ) → e ≤ totalOf p → segmentOf h e ≡ segmentOf g e
   unfolding segmentOf
   segment-same e b =
-      last-more (λ i. leb (countOf g i) e) (λ i. leb (countOf h i) e) (segmentsIn g) (segmentsIn h) (kept .more)
+      last-more (λ i. leb (rowOf g i .count) e) (λ i. leb (rowOf h i .count) e) (segmentsIn g) (segmentsIn h) (kept .more)
       (λ i c. rw (kept .counts i c))
-      (λ i c d. lt-leb (countOf h i) e (omega (arith, kept .further i c d)))
+      (λ i c d. lt-leb (rowOf h i .count) e (omega (arith, kept .further i c d)))
 
   time-same : (e : ℕ) (x : Option ℕ) → segmentOf g e ≡ x → timeIn k h e x ≡ timeIn l g e x
   unfolding timeIn segmentOf
   time-same e none s = refl
-  time-same e (some i) s = rw (line-same i e (last-found (λ i. leb (countOf g i) e) (segmentsIn g) i s .below))
+  time-same e (some i) s = rw (line-same i e (last-found (λ i. leb (rowOf g i .count) e) (segmentsIn g) i s .below))
 
   pub time-agrees : (e : ℕ)
       → Agree countRefusals (unless 12 (leb e (totalOf p)) (timeIn l g e (segmentOf g e))) (unless 12 (leb e (totalOf q)) (timeIn k h e (segmentOf h e)))

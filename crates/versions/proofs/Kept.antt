@@ -12,7 +12,7 @@ use borrow.Author.Tests.{ltb-true, lt-ltb}
 use Rattle.base.proofs.Scans.{some-none}
 use Rattle.rules.specs.Facts.{LayoutFacts, PartitionsFacts, SegmentsFacts}
 use Rattle.rules.specs.Partitions.{partitionsIn, endOf, totalOf}
-use Rattle.rules.specs.Segments.{segmentsIn, countOf, timeAt, unitOf, lineAt, stepsBackAt, stepsBack}
+use Rattle.rules.specs.Segments.{segmentsIn, rowOf, unitOf, lineAt, stepsBackAt, stepsBack}
 use Rattle.rules.proofs.Accepted.{layout-facts, partitions-facts, segments-facts}
 use Rattle.versions.specs.Versions.{Table, Accepted, lastIn, Hypothesis, Says}
 use Rattle.versions.specs.Versions.{same-n, same-moduli, same-offsets, same-delimiter, kept-starts, kept-ends, last-end, kept-counts, kept-times, kept-rates, further-counts, no-step-back}
@@ -67,11 +67,11 @@ module _ (older newer : Table) (was : Accepted older) (is : Accepted newer) (say
   pub unit : 1 ≤ unitOf (newer .layout)
   unit = unit-positive (newer .layout) new-layout
 
-  further : (i : ℕ) → segmentsIn (older .segments) ≤ i → i < segmentsIn (newer .segments) → totalOf (older .partitions) < countOf (newer .segments) i
+  further : (i : ℕ) → segmentsIn (older .segments) ≤ i → i < segmentsIn (newer .segments) → totalOf (older .partitions) < rowOf (newer .segments) i .count
   further i b c = let above = all-after _ (newer .segments .counts) _ i (says further-counts) b c in omega (arith, ltb-true)
 
   forward : (i : ℕ) → i + 1 < segmentsIn (newer .segments)
-      → ltZ (timeAt (newer .segments) (i + 1)) (lineAt (newer .layout) (newer .segments) i (countOf (newer .segments) (i + 1))) ≡ false
+      → ltZ (rowOf (newer .segments) (i + 1) .time) (lineAt (newer .layout) (newer .segments) i (rowOf (newer .segments) (i + 1) .count)) ≡ false
   unfolding stepsBack stepsBackAt
   forward i b =
       rw (lt-ltb (i + 1) (segmentsIn (newer .segments)) b)

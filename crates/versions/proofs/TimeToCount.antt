@@ -19,7 +19,7 @@ use Rattle.base.proofs.Scans.{Last, last-or, last-is, last-none}
 use Rattle.rules.specs.declared.Layout.{Layout}
 use Rattle.rules.specs.Answer.{refused, unless}
 use Rattle.rules.specs.Partitions.{Partitions, totalOf}
-use Rattle.rules.specs.Segments.{Segments, segmentsIn, countOf, timeAt, rateOf, unitOf, hasNext, lineAt}
+use Rattle.rules.specs.Segments.{Segments, segmentsIn, rowOf, unitOf, hasNext, lineAt}
 use Rattle.rules.specs.Time.{segmentAt, lineCount, stoppedAt, countIn}
 use Rattle.versions.specs.Versions.{Agree, timeRefusals}
 use Rattle.versions.proofs.Agreement.{agree-same, agree-refused}
@@ -30,24 +30,24 @@ use Rattle.versions.proofs.Partitions.{KeptPartitions, total-up}
 use Rattle.versions.proofs.Segments.{KeptSegments}
 
 -- a line that by its own count e was not later than u has reached e at any time from u on
-line-reaches : (l : Layout) (g : Segments) (i e : ℕ) (u t : ℤ) → 1 ≤ unitOf l → 1 ≤ rateOf g i
+line-reaches : (l : Layout) (g : Segments) (i e : ℕ) (u t : ℤ) → 1 ≤ unitOf l → 1 ≤ rowOf g i .rate
     → ltZ u (lineAt l g i e) ≡ false → leZ u t ≡ true → e ≤ lineCount l g i t
 unfolding lineAt lineCount
 line-reaches l g i e u t pu pr h b =
-    let d = later-elapsed (timeAt g i) t (roundUp (rateOf g i * (e - countOf g i)) (unitOf l)) (not-later u _ t h b) in
-    let m = at-most-up (rateOf g i * (e - countOf g i)) (unitOf l) (elapsed (timeAt g i) t) pu d in
-    let c = down-at-least (elapsed (timeAt g i) t * unitOf l) (rateOf g i) (e - countOf g i) pr (rw (mul-comm (rateOf g i) (e - countOf g i)) at m) in
+    let d = later-elapsed (rowOf g i .time) t (roundUp (rowOf g i .rate * (e - rowOf g i .count)) (unitOf l)) (not-later u _ t h b) in
+    let m = at-most-up (rowOf g i .rate * (e - rowOf g i .count)) (unitOf l) (elapsed (rowOf g i .time) t) pu d in
+    let c = down-at-least (elapsed (rowOf g i .time) t * unitOf l) (rowOf g i .rate) (e - rowOf g i .count) pr (rw (mul-comm (rowOf g i .rate) (e - rowOf g i .count)) at m) in
     omega arith
 
 -- a count below the next segment's is not stopped
-stop-free : (g : Segments) (i c : ℕ) → (i + 1 < segmentsIn g → c < countOf g (i + 1)) → stoppedAt g i c ≡ c
+stop-free : (g : Segments) (i c : ℕ) → (i + 1 < segmentsIn g → c < rowOf g (i + 1) .count) → stoppedAt g i c ≡ c
 unfolding stoppedAt
 stop-free g i c f =
-    by-test (hasNext g i) (λ y. rw (y, lt-leb (countOf g (i + 1)) c (f (ltb-true _ _ y)))) (λ n. rw n)
+    by-test (hasNext g i) (λ y. rw (y, lt-leb (rowOf g (i + 1) .count) c (f (ltb-true _ _ y)))) (λ n. rw n)
 
 -- segment i has begun at t
 abbrev begun : Segments → ℤ → ℕ → Bool
-begun g t i = leZ (timeAt g i) t
+begun g t i = leZ (rowOf g i .time) t
 
 module _
     (l k : Layout) (p q : Partitions) (g h : Segments) (one : OneLayout l k) (rows : KeptPartitions p q) (kept : KeptSegments k p g h)
@@ -66,7 +66,7 @@ module _
     after-by i zero b f = rw (add-zero i) f
     after-by i (suc d) b f =
         let e : i + suc d ≡ i + d + 1 = omega arith in
-        rw e (after-later (timeAt h (i + d)) _ t (kept .grow (i + d) (omega arith)) (after-by i d (omega arith) f))
+        rw e (after-later (rowOf h (i + d) .time) _ t (kept .grow (i + d) (omega arith)) (after-by i d (omega arith) f))
 
     none-after : (i : ℕ) → i ≤ segmentsIn g → begun h t i ≡ false → NoneFurther
     none-after i c f j b d = let e : i + (j - i) ≡ j = omega arith in rw e at (after-by i (j - i) (omega arith) f)
@@ -78,7 +78,7 @@ module _
     next-not-begun : (i : ℕ) → i + 1 ≡ segmentsIn g → i + 1 < segmentsIn h → lineCount l g i t ≤ totalOf p → begun h t (i + 1) ≡ false
     next-not-begun i e b c =
         by-test (begun h t (i + 1))
-        (λ y. let r = line-reaches k h i (countOf h (i + 1)) (timeAt h (i + 1)) t unit (kept .positive i (omega arith)) (kept .forward i b) y in
+        (λ y. let r = line-reaches k h i (rowOf h (i + 1) .count) (rowOf h (i + 1) .time) t unit (kept .positive i (omega arith)) (kept .forward i b) y in
         absurd (omega (arith, line-count-same i (omega arith), kept .further (i + 1) (omega arith) b)))
         (λ f. f)
 

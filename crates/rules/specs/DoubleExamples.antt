@@ -7,9 +7,9 @@ use mathlib.Core.List.{List, [], _∷_, map}
 use lib.IntN.{negsuc}
 use lib.Ieee.{Float, nan, inf, fin, binary64, neg, add, sub, mul, div, lt, eq, ofInt, ofBits}
 use Rattle.base.specs.Scans.{allOf}
-use Rattle.rules.specs.Answer.{Answer, answer, refused, unless}
-use Rattle.doubles.specs.declared.DoubleSegment.{DoubleSegment}
-use Rattle.doubles.specs.Doubles.{
+use Rattle.rules.specs.Answer.{Answer, answer, refuse, unless}
+use Rattle.rules.specs.declared.DoubleSegment.{DoubleSegment}
+use Rattle.rules.specs.Doubles.{
   double,
   tickOf,
   timeAfter,
@@ -65,44 +65,44 @@ cases =
     ∷ case (back zeros 10 threeTenths) (answer (ofBits binary64 0x4007_ffff_ffff_ffff))
     ∷ case (forward (segment (double 0) (neg threeTenths) (double 1)) 10 3) (answer (ofBits binary64 0x3c90_0000_0000_0000))
     -- MSF
-    ∷ case (forward zeros 0 0) (refused 15)
+    ∷ case (forward zeros 0 0) (refuse 15)
     ∷ case (forward zeros 1 0) (answer (double 0))
     ∷ case (forward zeros 1_000_000_000_000 0) (answer (double 0))
-    ∷ case (forward zeros 1_000_000_000_001 0) (refused 15)
-    ∷ case (back zeros 0 (double 0)) (refused 15)
+    ∷ case (forward zeros 1_000_000_000_001 0) (refuse 15)
+    ∷ case (back zeros 0 (double 0)) (refuse 15)
     ∷ case (back zeros 1_000_000_000_000 (double 0)) (answer (double 0))
-    ∷ case (back zeros 1_000_000_000_001 (double 0)) (refused 15)
+    ∷ case (back zeros 1_000_000_000_001 (double 0)) (refuse 15)
     -- the count given
     ∷ case (forward zeros 1 1_000_000_000_000_000) (answer (double 1_000_000_000_000_000))
-    ∷ case (forward zeros 1 1_000_000_000_000_001) (refused 15)
+    ∷ case (forward zeros 1 1_000_000_000_000_001) (refuse 15)
     -- back answers beyond 10^15 too
     ∷ case (back zeros 2 (double 1_000_000_000_000_000)) (answer (double 2_000_000_000_000_000))
     -- a number not finite
-    ∷ case (forward (segment nan (double 0) (double 1)) 1 0) (refused 15)
-    ∷ case (forward (segment (inf true) (double 0) (double 1)) 1 0) (refused 15)
-    ∷ case (forward (segment (double 0) (inf false) (double 1)) 1 0) (refused 15)
-    ∷ case (forward (segment (double 0) (double 0) (inf false)) 1 0) (refused 15)
-    ∷ case (back zeros 1 nan) (refused 15)
-    ∷ case (back zeros 1 (inf false)) (refused 15)
+    ∷ case (forward (segment nan (double 0) (double 1)) 1 0) (refuse 15)
+    ∷ case (forward (segment (inf true) (double 0) (double 1)) 1 0) (refuse 15)
+    ∷ case (forward (segment (double 0) (inf false) (double 1)) 1 0) (refuse 15)
+    ∷ case (forward (segment (double 0) (double 0) (inf false)) 1 0) (refuse 15)
+    ∷ case (back zeros 1 nan) (refuse 15)
+    ∷ case (back zeros 1 (inf false)) (refuse 15)
     -- the rate
-    ∷ case (forward (segment (double 0) (double 0) (double 0)) 1 0) (refused 15)
-    ∷ case (back (segment (double 0) (double 0) (neg (double 0))) 1 (double 0)) (refused 15)
-    ∷ case (forward (segment (double 0) (double 0) (neg smallest)) 1 0) (refused 15)
+    ∷ case (forward (segment (double 0) (double 0) (double 0)) 1 0) (refuse 15)
+    ∷ case (back (segment (double 0) (double 0) (neg (double 0))) 1 (double 0)) (refuse 15)
+    ∷ case (forward (segment (double 0) (double 0) (neg smallest)) 1 0) (refuse 15)
     ∷ case (forward (segment (double 0) (double 0) smallest) 1 1) (answer smallest)
-    ∷ case (forward (segment (double 0) (double 0) smallest) 2 1) (refused 15)
+    ∷ case (forward (segment (double 0) (double 0) smallest) 2 1) (refuse 15)
     -- value before the segment: the segment's own is not, and -0 is not before 0
     ∷ case (forward (segment (double 512) (double 100) (double 1)) 256 512) (answer (double 100))
-    ∷ case (forward (segment (double 512) (double 100) (double 1)) 256 511) (refused 15)
+    ∷ case (forward (segment (double 512) (double 100) (double 1)) 256 511) (refuse 15)
     ∷ case (back (segment (double 512) (double 100) (double 1)) 256 (double 100)) (answer (double 512))
-    ∷ case (back (segment (double 512) (double 100) (double 1)) 256 (double 99)) (refused 15)
+    ∷ case (back (segment (double 512) (double 100) (double 1)) 256 (double 99)) (refuse 15)
     ∷ case (back zeros 1 (neg (double 0))) (answer (double 0))
     -- a segment's own count may be below 0
     ∷ case (forward (segment (neg (double 2)) (double 100) (double 1)) 1 0) (answer (double 102))
     -- result not finite
     ∷ case (forward (segment (double 0) (double 0) largest) 1 1) (answer largest)
-    ∷ case (forward (segment (double 0) (double 0) largest) 1 2) (refused 15)
-    ∷ case (back (segment (double 0) (double 0) smallest) 1 (double 1)) (refused 15)
-    ∷ case (back (segment (double 0) (neg largest) (double 1)) 1 largest) (refused 15)
+    ∷ case (forward (segment (double 0) (double 0) largest) 1 2) (refuse 15)
+    ∷ case (back (segment (double 0) (double 0) smallest) 1 (double 1)) (refuse 15)
+    ∷ case (back (segment (double 0) (neg largest) (double 1)) 1 largest) (refuse 15)
     ∷ []
 
 pub cases-hold : map (λ c. reply (c .asked)) cases ≡ map (λ c. c .expected) cases

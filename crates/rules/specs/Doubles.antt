@@ -7,9 +7,9 @@ use lib.IntN.{pos}
 use lib.Dec.{leb}
 use lib.Ieee.{Float, nan, inf, fin, binary64, add, sub, mul, div, lt, eq, ofInt}
 use Rattle.base.specs.Scans.{allOf}
 use Rattle.rules.specs.Limits.{largestMSF, largestCount}
 use Rattle.rules.specs.Answer.{Answer, answer, unless}
-use Rattle.doubles.specs.declared.DoubleSegment.{DoubleSegment}
+use Rattle.rules.specs.declared.DoubleSegment.{DoubleSegment}
 
 -- a whole number as a double: exact up to 2^53, which lies above both limits here
 abbrev pub double : ℕ → Float
