@@ -1,5 +1,5 @@
--- Laws of the layout check, and what a caller has of it.
+-- Laws of the layout check.
 pub mod Walks
 pub mod Slots
-pub mod Ways
-pub mod Uses
+pub mod Units
+pub mod Measuring

@@ -1,16 +1,30 @@
--- What a measured layout says.
+-- What measuring a layout answers.
+use Prim.Native.Nat.{ℕ, _≤_}
 use mathlib.Core.Path.{_≡_}
-use mathlib.Core.Bool.{true}
 use Rattle.rules.specs.declared.Layout.{Layout}
-use Rattle.rules.specs.Layout.{layoutOk, productOf, msfOf}
+use Rattle.rules.specs.Answer.{Answer, answer, refused, unless}
+use Rattle.rules.specs.Layout.{layoutOk, productOf, unitOf}
+use Rattle.rules.specs.Limits.{largestUnit}
 use Rattle.layouts.specs.declared.Measured.{Measured}
+use Rattle.layouts.specs.declared.MeasureAnswer.{MeasureAnswer}
+use Rattle.layouts.specs.declared.MeasureAnswer.the-variants as Of
 
-pub record MeasureOf (l : Layout) (r : Measured) : Type 0 where
-  pub same : r .ok ≡ layoutOk l
-  pub product : r .ok ≡ true → r .product ≡ productOf l
-  pub msf : r .ok ≡ true → r .msf ≡ msfOf l
+abbrev pub measured : Layout → Measured
+measured l = record { product = productOf l; unit = unitOf l }
 
--- it is the measure of some layout
-pub record Measures (r : Measured) : Type 0 where
-  pub layout : Layout
-  pub measure : MeasureOf layout r
+abbrev pub measureAnswer : MeasureAnswer → Answer Measured
+measureAnswer (Of.Accepted m) = answer m
+measureAnswer (Of.Refused k) = refused k
+
+-- 1, and the two numbers
+unfoldable pub measureOf : Layout → Answer Measured
+measureOf l = unless 1 (layoutOk l) (answer (measured l))
+
+-- a unit that may divide
+pub record UnitFacts (unit : ℕ) : Type 0 where
+  pub low : 1 ≤ unit
+  pub high : unit ≤ largestUnit
+
+-- whatever the layout was
+pub record InLimits (r : MeasureAnswer) : Type 0 where
+  pub unit : (m : Measured) → r ≡ Of.Accepted m → UnitFacts (m .unit)

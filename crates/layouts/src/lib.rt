@@ -1,74 +1,67 @@
-// The layout check, with the two products that other tables and calls need.
+// The layout check, with the two numbers that other tables and calls need of a layout.
 ghost use mathlib.Core.Path.{_≡_};
-ghost use mathlib.Core.Bool.{false};
 ghost use Prim.Native.Nat.{_≤_, min};
 ghost use lib.Dec.{leb};
 ghost use lib.ListN.{length, take, drop};
 ghost use Rattle.base.specs.Scans.{all, product};
 ghost use Rattle.rules.specs.Limits.{mostFields};
-ghost use Rattle.layouts.specs.Measure.{MeasureOf};
+ghost use Rattle.layouts.specs.Measure.{measureAnswer, measureOf};
 use rules::Layout;
+use rules::Refusal;
 use wide::mul_capped;
 
 pub mod limits;
 
-// Whether a layout is accepted. Where it is, its product of moduli P and its MSF; where it is not, 0 and 0.
+// Of an accepted layout: the product of its moduli P, and the unit 1,000×MSF by which a rate is divided.
 pub struct Measured {
-    pub ok: bool,
     pub product: u64,
-    pub msf: u64,
+    pub unit: u64,
 }
 
-pub fn measure(layout: Layout) -> Measured
-    ensures { λ r. ⌜ MeasureOf layout r ⌝ }
+pub enum MeasureAnswer {
+    Accepted(Measured),
+    Refused(Refusal),
+}
+
+pub fn measure(layout: Layout) -> MeasureAnswer
+    ensures { λ r. ⌜ measureAnswer r ≡ measureOf layout ⌝ }
 {
     let n = layout.n;
     if n < 1 {
-        return refused();
+        return MeasureAnswer::Refused(refusals::LAYOUT);
     }
     if Layout::MOST_FIELDS < n {
-        return refused();
+        return MeasureAnswer::Refused(refusals::LAYOUT);
     }
     let delimiter = layout.delimiter;
     if delimiter < 1 {
-        return refused();
+        return MeasureAnswer::Refused(refusals::LAYOUT);
     }
     if limits::LAST_DELIMITER < delimiter {
-        return refused();
+        return MeasureAnswer::Refused(refusals::LAYOUT);
     }
     if !all_at_most(&layout.offsets, n, Layout::LARGEST_OFFSET) {
-        return refused();
+        return MeasureAnswer::Refused(refusals::LAYOUT);
     }
     let msf = product_capped(&layout.moduli, n, Layout::LARGEST_MSF + 1);
     if Layout::LARGEST_MSF < msf {
-        return refused();
+        return MeasureAnswer::Refused(refusals::LAYOUT);
     }
     let product = mul_capped(layout.moduli[0], msf, Layout::LARGEST_P + 1);
     if Layout::LARGEST_P < product {
-        return refused();
+        return MeasureAnswer::Refused(refusals::LAYOUT);
     }
     if product < 1 {
-        return refused();
+        return MeasureAnswer::Refused(refusals::LAYOUT);
     }
-    Measured {
-        ok: true,
+    MeasureAnswer::Accepted(Measured {
         product,
-        msf,
-    }
-}
-
-fn refused() -> Measured
-    ensures { λ r. ⌜ r .ok ≡ false ⌝ }
-{
-    Measured {
-        ok: false,
-        product: 0,
-        msf: 0,
-    }
+        unit: limits::PICOSECONDS * msf,
+    })
 }
 
 // Whether each of the first `n` numbers is at most `limit`.
-fn all_at_most(xs: &[u64; 10], n: usize, limit: u64) -> bool
+fn all_at_most(xs: &[u64; Layout::MOST_FIELDS], n: usize, limit: u64) -> bool
     requires { ⌜ (n ≤ mostFields) × (n ≤ length (now xs)) ⌝ }
     ensures { λ r. ⌜ r ≡ all (λ x. leb x limit) (take n (now (xs .entry))) ⌝ }
 {
@@ -83,7 +76,7 @@ fn all_at_most(xs: &[u64; 10], n: usize, limit: u64) -> bool
 }
 
 // The product of the first `n` numbers but the first, or `cap` where it is above that.
-fn product_capped(xs: &[u64; 10], n: usize, cap: u64) -> u64
+fn product_capped(xs: &[u64; Layout::MOST_FIELDS], n: usize, cap: u64) -> u64
     requires { ⌜ (1 ≤ n) × (n ≤ mostFields) × (n ≤ length (now xs)) × (1 ≤ cap) ⌝ }
     ensures { λ r. ⌜ r ≡ min (product (drop 1 (take n (now (xs .entry))))) cap ⌝ }
 {

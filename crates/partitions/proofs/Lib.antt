@@ -1,4 +1,3 @@
--- Laws of the partition check, and what a caller has of it.
+-- Laws of the partition check.
 pub mod Rows
-pub mod Ways
-pub mod Uses
+pub mod Checked

@@ -8,13 +8,10 @@ use borrow.Author.Count.{below-more}
 use Rattle.base.proofs.Scans.{sum-start, sum-next}
 use Rattle.rules.specs.Limits.{largestTotal}
 use Rattle.rules.specs.Partitions.{partitions, lengthOf, lengthsBefore}
-
-pub record RowOk (P : ℕ) (ss es : List ℕ) (i : ℕ) : Type 0 where
-  pub ordered : getD ss i 0 < getD es i 0
-  pub in-range : getD es i 0 < P
+use Rattle.rules.specs.Facts.{PartitionFacts}
 
 pub record RowsTo (P : ℕ) (ss es : List ℕ) (i t : ℕ) : Type 0 where
-  pub each : (j : ℕ) → j < i → RowOk P ss es j
+  pub each : (j : ℕ) → j < i → PartitionFacts P (partitions ss es) j
   pub total : t ≡ lengthsBefore (partitions ss es) i
   pub small : t ≤ largestTotal
 

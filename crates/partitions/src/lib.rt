@@ -1,30 +1,30 @@
 // The partition check, with the total.
 ghost use mathlib.Core.Path.{_≡_};
-ghost use mathlib.Core.Bool.{false};
 ghost use Rattle.rules.specs.Partitions.{partitions};
-ghost use Rattle.partitions.specs.Check.{CheckOf};
+ghost use Rattle.partitions.specs.Total.{totalAnswer, acceptedTotal};
 use layouts::limits::MOST_PARTITIONS;
 use rules::Layout;
+use rules::Refusal;
 
-// Whether partitions are accepted and, where they are, their total; where they are not, 0.
-pub struct Checked {
-    pub ok: bool,
-    pub total: u64,
+// The total of accepted partitions.
+pub enum TotalAnswer {
+    Total(u64),
+    Refused(Refusal),
 }
 
 // `product` is the P of the layout.
-pub fn check(product: u64, starts: &[u64], ends: &[u64]) -> Checked
-    ensures { λ r. ⌜ CheckOf product (partitions (now (starts .entry)) (now (ends .entry))) r ⌝ }
+pub fn check(product: u64, starts: &[u64], ends: &[u64]) -> TotalAnswer
+    ensures { λ r. ⌜ totalAnswer r ≡ acceptedTotal product (partitions (now (starts .entry)) (now (ends .entry))) ⌝ }
 {
     let n = starts.len();
     if ends.len() != n {
-        return refused();
+        return TotalAnswer::Refused(refusals::PARTITIONS);
     }
     if n < 1 {
-        return refused();
+        return TotalAnswer::Refused(refusals::PARTITIONS);
     }
     if MOST_PARTITIONS < n {
-        return refused();
+        return TotalAnswer::Refused(refusals::PARTITIONS);
     }
     let mut total: u64 = 0;
     let mut i = 0;
@@ -32,25 +32,16 @@ pub fn check(product: u64, starts: &[u64], ends: &[u64]) -> Checked
         let start = starts[i];
         let end = ends[i];
         if end <= start {
-            return refused();
+            return TotalAnswer::Refused(refusals::PARTITIONS);
         }
         if product <= end {
-            return refused();
+            return TotalAnswer::Refused(refusals::PARTITIONS);
         }
         if Layout::LARGEST_P - total < end - start {
-            return refused();
+            return TotalAnswer::Refused(refusals::PARTITIONS);
         }
         total += end - start;
         i += 1;
     }
-    Checked { ok: true, total }
-}
-
-fn refused() -> Checked
-    ensures { λ r. ⌜ r .ok ≡ false ⌝ }
-{
-    Checked {
-        ok: false,
-        total: 0,
-    }
+    TotalAnswer::Total(total)
 }

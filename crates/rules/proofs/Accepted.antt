@@ -1,20 +1,18 @@
 -- A table is accepted exactly where its named facts hold, and slots after the n-th do not matter.
-use Prim.Native.Nat.{ℕ, zero, suc, _+_, _-_, _<_}
+use Prim.Native.Nat.{ℕ, zero, suc, _+_, _<_}
 use mathlib.Core.Path.{_≡_, refl}
 use mathlib.Core.Bool.{true}
-use mathlib.Core.List.{[], _∷_}
-use lib.Dec.{ltb, eqb}
-use lib.Signed.{ltZ}
-use borrow.Author.Tests.{lt-ltb, le-leb, eq-eqb, ne-eqb, ltb-true, leb-true, eqb-true}
+use mathlib.Core.Option.{some}
+use borrow.Author.Tests.{lt-ltb, le-leb, eq-eqb, ltb-true, leb-true, eqb-true}
 use native.Mathlib.Omega.{arith}
 use native.Mathlib.Numerals.{add-one}
 use Rattle.base.specs.Scans.{allOf}
-use Rattle.base.proofs.Tests.{and-both, or-second, all-of-head, all-of-tail}
+use Rattle.base.proofs.Tests.{and-both, all-of-head, all-of-tail}
 use Rattle.base.proofs.Scans.{all-at, all-from}
 use Rattle.rules.specs.declared.Layout.{Layout}
 use Rattle.rules.specs.Layout.{moduliOf, offsetsOf, productOf, msfOf, layoutOk}
 use Rattle.rules.specs.Partitions.{Partitions, partitionsIn, partitionOk, partitionsOk}
-use Rattle.rules.specs.Segments.{Segments, segmentsIn, rowOf, follows, growsAt, rowOk, lineOk, segmentOk, segmentsOk}
+use Rattle.rules.specs.Segments.{Segments, segmentsIn, rowOf, rowBefore, follows, rowOk, lineOk, segmentOk, segmentOkAt, segmentsOk}
 use Rattle.rules.specs.Facts.{LayoutFacts, PartitionFacts, PartitionsFacts, SegmentFacts, Grows, SegmentsFacts}
 
 pub layout-facts : (l : Layout) → layoutOk l ≡ true → LayoutFacts l
@@ -86,8 +84,8 @@ partitions-accepted P p f =
     (and-both (le-leb _ _ (f .total)) refl))))
 
 module _ (unit total : ℕ) (g : Segments) where
-  segment-facts : (i : ℕ) → segmentOk unit total g i ≡ true → SegmentFacts unit total g i
-  unfolding segmentOk rowOk lineOk
+  segment-facts : (i : ℕ) → segmentOkAt unit total g i ≡ true → SegmentFacts unit total g i
+  unfolding segmentOkAt segmentOk rowOk lineOk
   segment-facts i h =
       let r = all-of-head _ _ h in
       let r1 = all-of-tail _ _ r in
@@ -101,30 +99,27 @@ module _ (unit total : ℕ) (g : Segments) where
         line = all-of-head _ _ (all-of-tail _ _ (all-of-tail _ _ h));
       }
 
-  grow-facts : (i : ℕ) → growsAt g (i + 1) ≡ true → Grows g i
-  unfolding growsAt follows
-  grow-facts i h = split (rw (ne-eqb (i + 1) 0 (λ e. omega arith), before) at h)
-    where
-      before : i + 1 - 1 ≡ i
-      before = omega arith
+  before-next : (i : ℕ) → rowBefore g (i + 1) ≡ some (rowOf g i)
+  unfolding rowBefore
+  before-next i = rw add-one
 
-      split : allOf (ltb (rowOf g i .count) (rowOf g (i + 1) .count) ∷ ltZ (rowOf g i .time) (rowOf g (i + 1) .time) ∷ []) ≡ true → Grows g i
-      split w = record { counts = ltb-true _ _ (all-of-head _ _ w); times = all-of-head _ _ (all-of-tail _ _ w) }
+  grown : (i : ℕ) → follows (some (rowOf g i)) (rowOf g (i + 1)) ≡ true → Grows g i
+  unfolding follows
+  grown i w = record { counts = ltb-true _ _ (all-of-head _ _ w); times = all-of-head _ _ (all-of-tail _ _ w) }
 
-  grown : (i : ℕ) → Grows g i → growsAt g (i + 1) ≡ true
-  unfolding growsAt follows allOf
-  grown i w = or-second (eqb (i + 1) 0) (rw before (and-both (lt-ltb _ _ (w .counts)) (and-both (w .times) refl)))
-    where
-      before : i + 1 - 1 ≡ i
-      before = omega arith
+  grow-facts : (i : ℕ) → segmentOkAt unit total g (i + 1) ≡ true → Grows g i
+  unfolding segmentOkAt segmentOk
+  grow-facts i h = grown i (rw (before-next i) at (all-of-head _ _ (all-of-tail _ _ h)))
 
-  grow-accepted : ((i : ℕ) → i + 1 < segmentsIn g → Grows g i) → (i : ℕ) → i < segmentsIn g → growsAt g i ≡ true
-  unfolding growsAt
-  grow-accepted f zero b = refl
-  grow-accepted f (suc i) b = rw add-one at (grown i (f i (omega arith)))
+  follows-next : ((i : ℕ) → i + 1 < segmentsIn g → Grows g i) → (i : ℕ) → i < segmentsIn g → follows (rowBefore g i) (rowOf g i) ≡ true
+  unfolding rowBefore follows allOf
+  follows-next f zero b = refl
+  follows-next f (suc i) b =
+      let w = f i (omega arith) in
+      rw add-one at (and-both (lt-ltb _ _ (w .counts)) (and-both (w .times) refl))
 
   pub segments-facts : segmentsOk unit total g ≡ true → SegmentsFacts unit total g
-  unfolding segmentsOk segmentOk
+  unfolding segmentsOk
   segments-facts h =
       let h1 = all-of-tail _ _ h in
       let h2 = all-of-tail _ _ h1 in
@@ -138,22 +133,22 @@ module _ (unit total : ℕ) (g : Segments) where
         some = leb-true _ _ (all-of-head _ _ h2);
         few = leb-true _ _ (all-of-head _ _ h3);
         last = leb-true _ _ (all-of-head _ _ h4);
-        each = λ i b. segment-facts i (all-at (segmentOk unit total g) (segmentsIn g) i rows b);
-        grow = λ i b. grow-facts i (all-of-head _ _ (all-of-tail _ _ (all-at (segmentOk unit total g) (segmentsIn g) (i + 1) rows b)));
+        each = λ i b. segment-facts i (all-at (segmentOkAt unit total g) (segmentsIn g) i rows b);
+        grow = λ i b. grow-facts i (all-at (segmentOkAt unit total g) (segmentsIn g) (i + 1) rows b);
       }
 
   pub segments-accepted : SegmentsFacts unit total g → segmentsOk unit total g ≡ true
-  unfolding segmentsOk segmentOk rowOk lineOk allOf
+  unfolding segmentsOk segmentOkAt segmentOk rowOk lineOk allOf
   segments-accepted f =
       and-both (eq-eqb _ _ (f .times-length))
       (and-both (eq-eqb _ _ (f .rates-length))
       (and-both (le-leb _ _ (f .some))
       (and-both (le-leb _ _ (f .few))
-      (and-both (le-leb _ _ (f .last)) (and-both (all-from (segmentOk unit total g) (segmentsIn g) row) refl)))))
+      (and-both (le-leb _ _ (f .last)) (and-both (all-from (segmentOkAt unit total g) (segmentsIn g) row) refl)))))
     where
-      row : (i : ℕ) → i < segmentsIn g → segmentOk unit total g i ≡ true
+      row : (i : ℕ) → i < segmentsIn g → segmentOkAt unit total g i ≡ true
       row i b =
           let s = f .each i b in
           and-both
           (and-both (s .early) (and-both (s .late) (and-both (le-leb _ _ (s .rate-low)) (and-both (le-leb _ _ (s .rate-high)) refl))))
-          (and-both (grow-accepted (f .grow) i b) (and-both (s .line) refl))
+          (and-both (follows-next (f .grow) i b) (and-both (s .line) refl))

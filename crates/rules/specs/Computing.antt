@@ -7,10 +7,11 @@ use Rattle.rules.specs.Layout.{layoutOk, productOf, msfOf, unitOf}
 use Rattle.rules.specs.Partitions.{partitionsOk, partitionOk, totalOf, lengthsBefore}
 use Rattle.rules.specs.Segments.{
   segmentsOk,
+  segmentOkAt,
   segmentOk,
   rowOk,
+  rowBefore,
   follows,
-  growsAt,
   lineOk,
   lineAt,
   segmentEnd,
@@ -96,7 +97,7 @@ unfolding allOf allBelow someBelow all product firstBelow lastBelow orElse sumBe
 scan-rules = Unit {0}
 
 unfoldable pub table-rules : Type 0
-unfolding layoutOk productOf msfOf unitOf partitionsOk partitionOk totalOf lengthsBefore segmentsOk segmentOk rowOk follows growsAt lineOk lineAt segmentEnd accepted
+unfolding layoutOk productOf msfOf unitOf partitionsOk partitionOk totalOf lengthsBefore segmentsOk segmentOkAt segmentOk rowOk rowBefore follows lineOk lineAt segmentEnd accepted
 table-rules = Unit {0}
 
 unfoldable pub text-rules : Type 0

@@ -1,5 +1,5 @@
 -- The limits of the tables, each written once for the definitions.
-use Prim.Native.Nat.{ℕ, _+_}
+use Prim.Native.Nat.{ℕ, _+_, _*_}
 use lib.IntN.{ℤ, pos, negℤ}
 
 -- "n from 1 to 10"
@@ -44,6 +44,10 @@ earliestTime = negℤ latestTime
 -- "A rate lies from 1,000×MSF": picoseconds in a nanosecond
 abbrev pub picoseconds : ℕ
 picoseconds = 1_000
+
+-- 1,000×MSF at the largest MSF
+abbrev pub largestUnit : ℕ
+largestUnit = picoseconds * largestMSF
 
 -- "to 10^15"
 abbrev pub largestRate : ℕ

@@ -1,8 +1,9 @@
 -- "Three lists of one length": count, time in nanoseconds, rate in picoseconds per first-field count.
 -- Of the layout a segment list is checked by the unit 1,000×MSF alone, of the partitions by the total.
-use Prim.Native.Nat.{ℕ, _+_, _-_, _*_}
-use mathlib.Core.Bool.{Bool, _&&_, _||_, cond}
+use Prim.Native.Nat.{ℕ, zero, suc, _+_, _-_, _*_}
+use mathlib.Core.Bool.{Bool, true, _&&_, cond}
 use mathlib.Core.List.{List, [], _∷_}
+use mathlib.Core.Option.{Option, none, some}
 use lib.IntN.{ℤ, pos}
 use lib.Signed.{leZ, ltZ}
 use lib.Dec.{leb, ltb, eqb}
@@ -46,20 +47,26 @@ unfoldable pub rowOk : ℕ → Segment → Bool
 rowOk unit s =
     allOf (leZ earliestTime (s .time) ∷ leZ (s .time) latestTime ∷ leb unit (s .rate) ∷ leb (s .rate) largestRate ∷ [])
 
--- Against the row before it. "Counts grow strictly", "Times grow strictly"
-unfoldable pub follows : Segment → Segment → Bool
-follows before s = allOf (ltb (before .count) (s .count) ∷ ltZ (before .time) (s .time) ∷ [])
-
--- the first row follows none
-unfoldable pub growsAt : Segments → ℕ → Bool
-growsAt g i = eqb i 0 || follows (rowOf g (i - 1)) (rowOf g i)
+-- Against the row before it, where there is one. "Counts grow strictly", "Times grow strictly"
+unfoldable pub follows : Option Segment → Segment → Bool
+follows none s = true
+follows (some before) s = allOf (ltb (before .count) (s .count) ∷ ltZ (before .time) (s .time) ∷ [])
 
 -- Its line to its end. "the time reached there by the segment's own line, rounded up, is at most 4×10^18"
 unfoldable pub lineOk : ℕ → Segment → ℕ → Bool
 lineOk unit s end = leZ (lineAt unit s end) latestTime
 
-unfoldable pub segmentOk : ℕ → ℕ → Segments → ℕ → Bool
-segmentOk unit total g i = allOf (rowOk unit (rowOf g i) ∷ growsAt g i ∷ lineOk unit (rowOf g i) (segmentEnd total g i) ∷ [])
+-- What one row must meet: by itself, against the row before it, and its line to its end.
+unfoldable pub segmentOk : ℕ → Option Segment → Segment → ℕ → Bool
+segmentOk unit before s end = allOf (rowOk unit s ∷ follows before s ∷ lineOk unit s end ∷ [])
+
+-- the row before row i
+unfoldable pub rowBefore : Segments → ℕ → Option Segment
+rowBefore g zero = none
+rowBefore g (suc i) = some (rowOf g i)
+
+unfoldable pub segmentOkAt : ℕ → ℕ → Segments → ℕ → Bool
+segmentOkAt unit total g i = segmentOk unit (rowBefore g i) (rowOf g i) (segmentEnd total g i)
 
 -- "of one length, 1 to 10,000 .. the last [count] is at most the total"
 unfoldable pub segmentsOk : ℕ → ℕ → Segments → Bool
@@ -70,7 +77,7 @@ segmentsOk unit total g =
     ∷ leb 1 (segmentsIn g)
     ∷ leb (segmentsIn g) mostSegments
     ∷ leb (rowOf g (segmentsIn g - 1) .count) total
-    ∷ allBelow (segmentOk unit total g) (segmentsIn g)
+    ∷ allBelow (segmentOkAt unit total g) (segmentsIn g)
     ∷ [])
 
 -- a line, rounded up, at the next segment's count is later than the next segment's time; equal is no step back

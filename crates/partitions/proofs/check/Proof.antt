@@ -1,7 +1,7 @@
 use Prim.Native.Nat.{_-_, _≤_}
 use borrow.Author.Needs.{needs}
 use Rattle.partitions.proofs.Rows.{RowsTo, rows-start, rows-turn}
-use Rattle.partitions.proofs.Ways.{unequal, none-there, too-many, not-ordered, not-in-range, too-long, checked}
+use Rattle.partitions.proofs.Checked.{unequal, none-there, too-many, not-ordered, not-in-range, too-long, accepted}
 use Rattle.partitions.proofs.check.Statement.{statement}
 use Rattle.partitions.proofs.check.Tie as tie
 
@@ -17,28 +17,22 @@ check-spec =
     (tie.spec
     Inv-loop
     μ-loop
-    (λ c κs. search needs)
     (λ c. search (unequal, needs))
-    (λ c κs. search needs)
     (λ c. search (none-there, needs))
-    (λ c κs. search needs)
     (λ c. search (too-many, needs))
     (λ c. search (rows-start, needs))
     (λ c. search needs)
     (λ c. search needs)
     (λ c. search needs)
     (λ c. search needs)
-    (λ c κs. search needs)
     (λ c. search (not-ordered, needs))
-    (λ c κs. search needs)
     (λ c. search (not-in-range, needs))
     (λ c. search needs)
     (λ c. search needs)
-    (λ c κs. search needs)
     (λ c. search (too-long, needs))
     (λ c. search needs)
     (λ c. search needs)
     (λ c. search needs)
     (λ c. search needs)
     (λ c. search (rows-turn, needs))
-    (λ c. search (checked, needs)))
+    (λ c. search (accepted, needs)))

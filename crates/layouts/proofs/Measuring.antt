@@ -1,4 +1,4 @@
--- What each way out of `measure` says of the layout.
+-- What each way out of `measure` says of the layout: 1 and why, or its two numbers.
 use Prim.Native.Nat.{ℕ, zero, suc, _+_, _*_, _≤_, _<_, min}
 use mathlib.Core.Path.{_≡_, refl, sym, _∙_}
 use mathlib.Core.Bool.{Bool, true, false, not}
@@ -12,12 +12,12 @@ use Rattle.base.specs.Scans.{all, product}
 use Rattle.base.proofs.Lists.{product-pos}
 use Rattle.base.proofs.Tests.{by-test, not-both, and-both}
 use Rattle.rules.specs.declared.Layout.{Layout}
-use Rattle.rules.specs.Limits.{mostFields, largestOffset, largestP, largestMSF, lastDelimiter}
-use Rattle.rules.specs.Layout.{moduliOf, productOf, msfOf, layoutOk}
+use Rattle.rules.specs.Limits.{mostFields, largestOffset, largestP, largestMSF, lastDelimiter, picoseconds}
+use Rattle.rules.specs.Layout.{moduliOf, productOf, msfOf, unitOf, layoutOk}
 use Rattle.rules.specs.Facts.{LayoutFacts}
 use Rattle.rules.proofs.Accepted.{layout-facts, layout-accepted}
-use Rattle.layouts.specs.declared.Measured.{Measured}
-use Rattle.layouts.specs.Measure.{MeasureOf}
+use Rattle.rules.specs.Answer.{answer, refuse, unless}
+use Rattle.layouts.specs.Measure.{measureOf}
 use Rattle.layouts.proofs.Slots.{slots-within, product-of-slots}
 
 -- "Each has a modulus of at least 1" where the product is at least 1; base has the other way.
@@ -40,29 +40,24 @@ module _ (l : Layout) where
   unfolding productOf
   positive-moduli h = positive-factors (moduliOf l) h
 
-  module _ (r : Measured) (no : r .ok ≡ false) where
-    refused-by : (LayoutFacts l → ⊥) → MeasureOf l r
-    refused-by f =
-        record {
-          same = no ∙ sym (by-test (layoutOk l) (λ t. absurd (f (layout-facts l t))) (λ e. e));
-          product = λ y. absurd (not-both y no);
-          msf = λ y. absurd (not-both y no);
-        }
+  refused-by : (LayoutFacts l → ⊥) → refuse 1 ≡ measureOf l
+  unfolding measureOf unless
+  refused-by f = by-test (layoutOk l) (λ t. absurd (f (layout-facts l t))) (λ e. rw e)
 
-    pub no-fields : l .n < 1 → MeasureOf l r
-    no-fields h = refused-by (λ f. omega (arith, f .fields))
+  pub no-fields : l .n < 1 → refuse 1 ≡ measureOf l
+  no-fields h = refused-by (λ f. omega (arith, f .fields))
 
-    pub many-fields : mostFields < l .n → MeasureOf l r
-    many-fields h = refused-by (λ f. omega (arith, f .few-fields))
+  pub many-fields : mostFields < l .n → refuse 1 ≡ measureOf l
+  many-fields h = refused-by (λ f. omega (arith, f .few-fields))
 
-    pub low-delimiter : l .delimiter < 1 → MeasureOf l r
-    low-delimiter h = refused-by (λ f. omega (arith, f .delimiter-low))
+  pub low-delimiter : l .delimiter < 1 → refuse 1 ≡ measureOf l
+  low-delimiter h = refused-by (λ f. omega (arith, f .delimiter-low))
 
-    pub high-delimiter : lastDelimiter < l .delimiter → MeasureOf l r
-    high-delimiter h = refused-by (λ f. omega (arith, f .delimiter-high))
+  pub high-delimiter : lastDelimiter < l .delimiter → refuse 1 ≡ measureOf l
+  high-delimiter h = refused-by (λ f. omega (arith, f .delimiter-high))
 
-    pub large-offset : {b : Bool} → b ≡ all (λ o. leb o largestOffset) (take (l .n) (l .offsets)) → not b ≡ true → MeasureOf l r
-    large-offset {b} e h = refused-by (λ f. not-both (e ∙ f .offsets) (not-true b h))
+  pub large-offset : {b : Bool} → b ≡ all (λ o. leb o largestOffset) (take (l .n) (l .offsets)) → not b ≡ true → refuse 1 ≡ measureOf l
+  large-offset {b} e h = refused-by (λ f. not-both (e ∙ f .offsets) (not-true b h))
 
   -- The first product: m is MSF unless that is above its limit.
   module _ (m : ℕ) (e : m ≡ min (product (drop 1 (take (l .n) (l .moduli)))) (largestMSF + 1)) where
@@ -70,8 +65,8 @@ module _ (l : Layout) where
     unfolding msfOf
     msf-capped = e
 
-    pub large-msf : (r : Measured) → r .ok ≡ false → largestMSF < m → MeasureOf l r
-    large-msf r b h = refused-by r b (λ f. omega (arith, f .msf, msf-capped))
+    pub large-msf : largestMSF < m → refuse 1 ≡ measureOf l
+    large-msf h = refused-by (λ f. omega (arith, f .msf, msf-capped))
 
     -- The second: p is P, the first modulus times MSF, unless that is above its limit.
     module _ (small : m ≤ largestMSF) (p : ℕ) (long : length (map (λ (v : ℕ). v) (l .moduli)) ≡ mostFields) (some : 1 ≤ l .n) (few : l .n ≤ mostFields) (q : p ≡ min (getD (l .moduli) 0 0 * m) (largestP + 1)) where
@@ -85,27 +80,34 @@ module _ (l : Layout) where
       product-capped : p ≡ min (productOf l) (largestP + 1)
       product-capped = rw (first-times, ← msf-is) q
 
-      pub large-product : (r : Measured) → r .ok ≡ false → largestP < p → MeasureOf l r
-      large-product r b h = refused-by r b (λ f. omega (arith, f .product, product-capped))
+      pub large-product : largestP < p → refuse 1 ≡ measureOf l
+      large-product h = refused-by (λ f. omega (arith, f .product, product-capped))
 
-      pub zero-product : (r : Measured) → r .ok ≡ false → p < 1 → MeasureOf l r
+      pub zero-product : p < 1 → refuse 1 ≡ measureOf l
       unfolding productOf
-      zero-product r b h = refused-by r b (λ f. omega (arith, product-pos (moduliOf l) (f .moduli), product-capped))
+      zero-product h = refused-by (λ f. omega (arith, product-pos (moduliOf l) (f .moduli), product-capped))
 
-      pub measured : {b : Bool} → 1 ≤ l .delimiter → l .delimiter ≤ lastDelimiter → b ≡ all (λ o. leb o largestOffset) (take (l .n) (l .offsets)) → not b ≡ false → p ≤ largestP → 1 ≤ p → MeasureOf l (record { ok = true; product = p; msf = m })
-      measured {b} low high o t bound positive =
-          let same = uncapped (productOf l) p largestP product-capped bound in
-          record {
-            same = sym (layout-accepted l (record {
+      module _ {b : Bool} (low : 1 ≤ l .delimiter) (high : l .delimiter ≤ lastDelimiter) (o : b ≡ all (λ o. leb o largestOffset) (take (l .n) (l .offsets))) (t : not b ≡ false) (bound : p ≤ largestP) (positive : 1 ≤ p) where
+        product-is : p ≡ productOf l
+        product-is = uncapped (productOf l) p largestP product-capped bound
+
+        facts : LayoutFacts l
+        facts =
+            record {
               fields = some;
               few-fields = few;
-              moduli = positive-moduli (rw same at positive);
+              moduli = positive-moduli (rw product-is at positive);
               offsets = sym o ∙ not-false b t;
-              product = rw same at bound;
+              product = rw product-is at bound;
               msf = rw msf-is at small;
               delimiter-low = low;
               delimiter-high = high;
-            }));
-            product = λ _. same;
-            msf = λ _. msf-is;
-          }
+            }
+
+        unit-is : picoseconds * m ≡ unitOf l
+        unfolding unitOf
+        unit-is = rw msf-is
+
+        pub accepted : answer (record { product = p; unit = picoseconds * m }) ≡ measureOf l
+        unfolding measureOf unless
+        accepted = rw (layout-accepted l facts, product-is, unit-is)
