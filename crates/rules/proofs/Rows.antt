@@ -125,7 +125,7 @@ module _ (n : ℕ) where
   many-rates = tabulate-length (λ j. 10_000) n
 
   -- every segment ends by count 9,999
-  many-end : (i : ℕ) → i < n → n ≤ mostSegments → segmentEnd (totalOf spans) (manySegments n) i ≤ 9_999
+  many-end : (i : ℕ) → i < n → n ≤ mostSegments → segmentEnd (totalOf spans) (manySegments n .counts) i ≤ 9_999
   unfolding segmentEnd
   many-end i h m =
       by-test (ltb (i + 1) (segmentsIn (manySegments n)))

@@ -85,6 +85,7 @@ use Rattle.rules.specs.Time.{
   countOn,
   notBeyond,
   segmentAt,
+  ticksSince,
   lineCount,
   stoppedAt,
   accepted,
@@ -113,7 +114,7 @@ unfolding printCount printStamp stampPrint countPrint fieldsPrint fieldPrint fie
 print-rules = Unit {0}
 
 unfoldable pub time-rules : Type 0
-unfolding timeOf timeIn timeOn segmentOf countAt countIn countOn notBeyond segmentAt lineCount stoppedAt overtakes stepsBack stepsBackAt stepsBackIn withTime timeOfStamp
+unfolding timeOf timeIn timeOn segmentOf countAt countIn countOn notBeyond segmentAt ticksSince lineCount stoppedAt overtakes stepsBack stepsBackAt stepsBackIn withTime timeOfStamp
 time-rules = Unit {0}
 
 unfoldable pub computing : Type 0

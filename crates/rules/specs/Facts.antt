@@ -50,7 +50,7 @@ pub record SegmentFacts (unit total : ℕ) (g : Segments) (i : ℕ) : Type 0 whe
   pub late : leZ (rowOf g i .time) latestTime ≡ true
   pub rate-low : unit ≤ rowOf g i .rate
   pub rate-high : rowOf g i .rate ≤ largestRate
-  pub line : leZ (lineAt unit (rowOf g i) (segmentEnd total g i)) latestTime ≡ true
+  pub line : leZ (lineAt unit (rowOf g i) (segmentEnd total (g .counts) i)) latestTime ≡ true
 
 -- segment i + 1 begins after segment i, in count and in time
 pub record Grows (g : Segments) (i : ℕ) : Type 0 where

@@ -30,13 +30,13 @@ segmentsIn g = length (g .counts)
 abbrev pub rowOf : Segments → ℕ → Segment
 rowOf g i = record { count = getD (g .counts) i 0; time = getD (g .times) i (pos 0); rate = getD (g .rates) i 0 }
 
--- segment i has a next one
-abbrev pub hasNext : Segments → ℕ → Bool
-hasNext g i = ltb (i + 1) (segmentsIn g)
+-- segment i of those with these counts has a next one
+abbrev pub hasNext : List ℕ → ℕ → Bool
+hasNext counts i = ltb (i + 1) (length counts)
 
 -- "Each segment ends at the next one's count, the last at the total"
-unfoldable pub segmentEnd : ℕ → Segments → ℕ → ℕ
-segmentEnd total g i = cond (hasNext g i) (rowOf g (i + 1) .count) total
+unfoldable pub segmentEnd : ℕ → List ℕ → ℕ → ℕ
+segmentEnd total counts i = cond (hasNext counts i) (getD counts (i + 1) 0) total
 
 -- The time that a segment's own line reaches at the count e, rounded up: time + rate×(e - count) / (1,000×MSF).
 unfoldable pub lineAt : ℕ → Segment → ℕ → ℤ
@@ -66,7 +66,7 @@ rowBefore g zero = none
 rowBefore g (suc i) = some (rowOf g i)
 
 unfoldable pub segmentOkAt : ℕ → ℕ → Segments → ℕ → Bool
-segmentOkAt unit total g i = segmentOk unit (rowBefore g i) (rowOf g i) (segmentEnd total g i)
+segmentOkAt unit total g i = segmentOk unit (rowBefore g i) (rowOf g i) (segmentEnd total (g .counts) i)
 
 -- "of one length, 1 to 10,000 .. the last [count] is at most the total"
 unfoldable pub segmentsOk : ℕ → ℕ → Segments → Bool
@@ -85,7 +85,7 @@ unfoldable pub overtakes : ℕ → Segment → Segment → Bool
 overtakes unit s next = ltZ (next .time) (lineAt unit s (next .count))
 
 unfoldable pub stepsBackAt : ℕ → Segments → ℕ → Bool
-stepsBackAt unit g i = hasNext g i && overtakes unit (rowOf g i) (rowOf g (i + 1))
+stepsBackAt unit g i = hasNext (g .counts) i && overtakes unit (rowOf g i) (rowOf g (i + 1))
 
 -- "A table steps back if some segment's line .." (the paper's term)
 unfoldable pub stepsBack : ℕ → Segments → Bool

@@ -1,22 +1,22 @@
 -- What a segment's line needs so that its numbers fit 64 bits.
-use Prim.Native.Nat.{ℕ, _-_, _*_, _^_, _≤_, _<_}
+use Prim.Native.Nat.{ℕ, _^_, _≤_, _<_}
 use mathlib.Core.Path.{_≡_}
 use mathlib.Core.Bool.{true}
 use lib.IntN.{ℤ}
 use lib.Signed.{leZ, mag}
-use Rattle.base.specs.Rounding.{roundUp}
-use Rattle.base.specs.Signed.{later}
+use Rattle.rules.specs.declared.Segment.{Segment}
+use Rattle.rules.specs.Segments.{lineAt}
 
 -- a count to its time: the count is not before the segment's, and the time reached is an i64
-pub record Forward (unit count : ℕ) (time : ℤ) (rate e : ℕ) : Type 0 where
+pub record ToTime (unit : ℕ) (s : Segment) (e : ℕ) : Type 0 where
   pub unit-low : 1 ≤ unit
   pub unit-high : unit ≤ 2 ^ 63
-  pub begun : count ≤ e
-  pub reached : mag (later time (roundUp (rate * (e - count)) unit)) < 2 ^ 63
+  pub begun : s .count ≤ e
+  pub reached : mag (lineAt unit s e) < 2 ^ 63
 
 -- a time to its ticks: the time is not before the segment's, and a tick lasts at least 1 ns
-pub record Back (unit : ℕ) (time : ℤ) (rate : ℕ) (t : ℤ) : Type 0 where
+pub record ToTicks (unit : ℕ) (s : Segment) (t : ℤ) : Type 0 where
   pub unit-low : 1 ≤ unit
-  pub rate-low : unit ≤ rate
-  pub rate-high : rate ≤ 2 ^ 63
-  pub begun : leZ time t ≡ true
+  pub rate-low : unit ≤ s .rate
+  pub rate-high : s .rate ≤ 2 ^ 63
+  pub begun : leZ (s .time) t ≡ true

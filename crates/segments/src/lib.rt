@@ -1,135 +1,90 @@
-// The segment check, and whether accepted segments step back: one pass over the rows each, and no division.
-// A line that is rounded up, ceil(x / unit), is at most k exactly where x is at most k * unit.
+// The segment check, and whether accepted segments step back: one pass over the rows each.
 ghost use mathlib.Core.Path.{_≡_};
-ghost use Prim.Native.Nat.{_*_, _≤_, _<_};
-ghost use lib.Dec.{ltb};
-ghost use lib.IntN.{pos};
-ghost use lib.ListN.{length, getD};
-ghost use Rattle.rules.specs.Segments.{segments};
-ghost use Rattle.segments.specs.Check.{roomOf, withinRoom, CheckOf};
-ghost use Rattle.segments.specs.StepsBack.{OrdinalOf, Rising, StepsBackOf};
-use layouts::limits::EARLIEST_TIME;
-use layouts::limits::LARGEST_RATE;
-use layouts::limits::LATEST_TIME;
+ghost use Prim.Native.Nat.{_≤_, _<_};
+ghost use lib.ListN.{length};
+ghost use Rattle.rules.specs.Segments.{segments, segmentEnd, stepsBack};
+ghost use Rattle.segments.specs.Rows.{checkAnswer, acceptedSegments, Rising};
+use crate::row::Previous;
+use crate::row::overtakes;
+use crate::row::row_at;
+use crate::row::row_ok;
 use layouts::limits::MOST_SEGMENTS;
-use signed::ordinal;
-use wide::product_at_most;
+use rules::Refusal;
 
-// Whether segments are accepted. `unit` is the layout's 1,000×MSF, `total` that of the partitions.
-pub fn check(unit: u64, total: u64, counts: &[u64], times: &[i64], rates: &[u64]) -> bool
+pub mod row;
+
+pub enum CheckAnswer {
+    Accepted,
+    Refused(Refusal),
+}
+
+// `unit` is the layout's 1,000×MSF, `total` that of the partitions.
+pub fn check(
+    unit: u64,
+    total: u64,
+    counts: &[u64],
+    times: &[i64],
+    rates: &[u64],
+) -> CheckAnswer
     requires { ⌜ 1 ≤ unit ⌝ }
-    ensures { λ r. ⌜ CheckOf unit total (segments (now (counts .entry)) (now (times .entry)) (now (rates .entry))) r ⌝ }
+    ensures { λ r. ⌜ checkAnswer r ≡ acceptedSegments unit total (segments (now (counts .entry)) (now (times .entry)) (now (rates .entry))) ⌝ }
 {
     let n = counts.len();
     if times.len() != n {
-        return false;
+        return CheckAnswer::Refused(refusals::SEGMENTS);
     }
     if rates.len() != n {
-        return false;
+        return CheckAnswer::Refused(refusals::SEGMENTS);
     }
     if n < 1 {
-        return false;
+        return CheckAnswer::Refused(refusals::SEGMENTS);
     }
     if MOST_SEGMENTS < n {
-        return false;
+        return CheckAnswer::Refused(refusals::SEGMENTS);
     }
-    let mut left = room_at(times, 0);
-    if left == u64::MAX {
-        return false;
+    if total < counts[n - 1] {
+        return CheckAnswer::Refused(refusals::SEGMENTS);
     }
-    let last = n - 1;
+    let mut before = Previous::Nothing;
     let mut i = 0;
-    while i < last {
-        let count = counts[i];
-        let next_count = counts[i + 1];
-        if next_count <= count {
-            return false;
+    while i < n {
+        let row = row_at(counts, times, rates, i);
+        if !row_ok(unit, before, row, end_of(counts, total, i)) {
+            return CheckAnswer::Refused(refusals::SEGMENTS);
         }
-        let next_left = room_at(times, i + 1);
-        if left <= next_left {
-            return false;
-        }
-        if !within_room(unit, rates[i], next_count - count, left) {
-            return false;
-        }
-        left = next_left;
+        before = Previous::Row(row);
         i += 1;
     }
-    let count = counts[last];
-    if total < count {
-        return false;
-    }
-    within_room(unit, rates[last], total - count, left)
+    CheckAnswer::Accepted
 }
 
-fn room_at(times: &[i64], i: usize) -> u64
-    requires { ⌜ i < length (now times) ⌝ }
-    ensures { λ r. ⌜ r ≡ roomOf (getD (now (times .entry)) i (pos 0)) ⌝ }
+// Where row `i` ends: at the next one's count, the last at the total.
+fn end_of(counts: &[u64], total: u64, i: usize) -> u64
+    requires { ⌜ i < length (now counts) ⌝ }
+    ensures { λ r. ⌜ r ≡ segmentEnd total (now (counts .entry)) i ⌝ }
 {
-    room(times[i])
-}
-
-// How long before the latest time `time` is. A time outside the range has the greatest number: the first row is tested for
-// it, and a later row must have less room than the row before it.
-fn room(time: i64) -> u64
-    ensures { λ r. ⌜ r ≡ roomOf time ⌝ }
-{
-    let at = ordinal(time);
-    let latest = ordinal(LATEST_TIME);
-    if at < ordinal(EARLIEST_TIME) {
-        return u64::MAX;
+    if i + 1 < counts.len() {
+        return counts[i + 1];
     }
-    if latest < at {
-        return u64::MAX;
-    }
-    latest - at
-}
-
-// Whether a rate is in its limits, and a line of that rate over `length` ticks ends within `left` nanoseconds.
-fn within_room(unit: u64, rate: u64, length: u64, left: u64) -> bool
-    ensures { λ r. ⌜ r ≡ withinRoom unit rate length left ⌝ }
-{
-    if rate < unit {
-        return false;
-    }
-    if LARGEST_RATE < rate {
-        return false;
-    }
-    product_at_most(rate, length, left, unit)
+    total
 }
 
 // Whether some line, rounded up, at the next segment's count is later than the next segment's time.
 pub fn steps_back(unit: u64, counts: &[u64], times: &[i64], rates: &[u64]) -> bool
-    requires { ⌜ Rising unit (segments (now counts) (now times) (now rates)) ⌝ }
-    ensures { λ r. ⌜ StepsBackOf unit (segments (now (counts .entry)) (now (times .entry)) (now (rates .entry))) r ⌝ }
+    requires { ⌜ 1 ≤ unit ⌝ }
+    requires { ⌜ Rising (segments (now counts) (now times) (now rates)) ⌝ }
+    ensures { λ r. ⌜ r ≡ stepsBack unit (segments (now (counts .entry)) (now (times .entry)) (now (rates .entry))) ⌝ }
 {
     let last = counts.len() - 1;
-    let mut at = ordinal_at(times, 0);
+    let mut row = row_at(counts, times, rates, 0);
     let mut i = 0;
     while i < last {
-        let rate = rates[i];
-        let length = counts[i + 1] - counts[i];
-        let next = ordinal_at(times, i + 1);
-        let gap = next - at;
-        if overtakes(unit, rate, length, gap) {
+        let next = row_at(counts, times, rates, i + 1);
+        if overtakes(unit, row, next) {
             return true;
         }
-        at = next;
+        row = next;
         i += 1;
     }
     false
-}
-
-// Whether a line of that rate over `length` ticks, rounded up, is longer than `gap` nanoseconds.
-fn overtakes(unit: u64, rate: u64, length: u64, gap: u64) -> bool
-    ensures { λ r. ⌜ r ≡ ltb (gap * unit) (rate * length) ⌝ }
-{
-    !product_at_most(rate, length, gap, unit)
-}
-
-fn ordinal_at(times: &[i64], i: usize) -> u64
-    requires { ⌜ i < length (now times) ⌝ }
-    ensures { λ r. ⌜ OrdinalOf (getD (now (times .entry)) i (pos 0)) r ⌝ }
-{
-    ordinal(times[i])
 }

@@ -1,8 +1,28 @@
-// A signed number as an unsigned one, in offset binary: its distance from the least i64. Order, sums and differences of times
-// are those of their ordinals (the laws are in base), so only this crate has signed arithmetic.
+// Signed numbers: how much later one time is than another, a time so much later, and a number in offset binary.
+// Only this crate has signed arithmetic.
 ghost use mathlib.Core.Path.{_≡_};
-ghost use Prim.Native.Nat.{_^_};
-ghost use Rattle.base.specs.Signed.{ordinal as ordinalOf};
+ghost use mathlib.Core.Bool.{true};
+ghost use Prim.Native.Nat.{_^_, _<_};
+ghost use lib.Signed.{leZ, mag};
+ghost use Rattle.base.specs.Signed.{ordinal as ordinalOf, later as laterOf, elapsed as elapsedOf};
+
+// How much later `to` is than `from`.
+pub fn elapsed(from: i64, to: i64) -> u64
+    requires { ⌜ leZ from to ≡ true ⌝ }
+    ensures { λ r. ⌜ r ≡ elapsedOf from to ⌝ }
+{
+    ordinal(to) - ordinal(from)
+}
+
+// `distance` after `time`.
+pub fn later(time: i64, distance: u64) -> i64
+    requires { ⌜ mag (laterOf time distance) < 2 ^ 63 ⌝ }
+    ensures { λ r. ⌜ r ≡ laterOf time distance ⌝ }
+{
+    from_ordinal(ordinal(time) + distance)
+}
+
+// The distance from the least i64.
 
 pub fn ordinal(x: i64) -> u64
     ensures { λ r. ⌜ r ≡ ordinalOf (2 ^ 63) x ⌝ }

@@ -1,6 +1,6 @@
 -- Below 2^63 the complement is used, elsewhere the number itself. Assumes nothing.
 use borrow.Author.Needs.{needs}
-use Rattle.signed.proofs.Laws.{below-from, above-from}
+use Rattle.signed.proofs.Words.{below-from, above-from}
 use Rattle.signed.proofs.from_ordinal.Statement.{statement}
 use Rattle.signed.proofs.from_ordinal.Tie as tie
 

@@ -1,5 +1,5 @@
 -- Below 0 the complement is used, elsewhere the number itself. Assumes nothing.
-use Rattle.signed.proofs.Laws.{complement-cast, complement-small, complement-ordinal, same-cast, same-fits, same-ordinal}
+use Rattle.signed.proofs.Words.{complement-cast, complement-small, complement-ordinal, same-cast, same-fits, same-ordinal}
 use Rattle.signed.proofs.ordinal.Statement.{statement}
 use Rattle.signed.proofs.ordinal.Tie as tie
 

@@ -1,0 +1,38 @@
+-- What the segment check answers, and what its parts ask of the lists.
+use Prim.Native.Nat.{ℕ, _+_, _≤_, _<_}
+use mathlib.Core.Path.{_≡_}
+use mathlib.Core.Option.{Option, none, some}
+use lib.ListN.{length}
+use Rattle.rules.specs.declared.Segment.{Segment}
+use Rattle.rules.specs.Answer.{Answer, answer, refused, unless}
+use Rattle.rules.specs.Segments.{Segments, segmentsIn, segmentsOk}
+use Rattle.rules.specs.Facts.{Grows}
+use Rattle.segments.specs.declared.CheckAnswer.{CheckAnswer}
+use Rattle.segments.specs.declared.CheckAnswer.the-variants as Of
+use Rattle.segments.specs.declared.row.Previous.{Previous}
+use Rattle.segments.specs.declared.row.Previous.the-variants as Before
+
+abbrev pub checkAnswer : CheckAnswer → Answer (Unit {0})
+checkAnswer Of.Accepted = answer tt
+checkAnswer (Of.Refused k) = refused k
+
+-- 3, or nothing is wrong
+unfoldable pub acceptedSegments : ℕ → ℕ → Segments → Answer (Unit {0})
+acceptedSegments unit total g = unless 3 (segmentsOk unit total g) (answer tt)
+
+abbrev pub previous : Previous → Option Segment
+previous (Before.Row s) = some s
+previous Before.Nothing = none
+
+-- row i is in every list
+pub record RowIn (g : Segments) (i : ℕ) : Type 0 where
+  pub count : i < segmentsIn g
+  pub time : i < length (g .times)
+  pub rate : i < length (g .rates)
+
+-- of accepted segments the step-back test uses their lengths and their growth
+pub record Rising (g : Segments) : Type 0 where
+  pub times-length : length (g .times) ≡ segmentsIn g
+  pub rates-length : length (g .rates) ≡ segmentsIn g
+  pub some : 1 ≤ segmentsIn g
+  pub grow : (i : ℕ) → i + 1 < segmentsIn g → Grows g i
