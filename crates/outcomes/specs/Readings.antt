@@ -28,8 +28,8 @@ pub record ReadingCase : Type 0 where
   pub asked : ToRead
   pub expected : Answer Reading
 
-reads : ℕ → Answer Reading
-reads c = answer (reading c)
+readsAs : ℕ → Answer Reading
+readsAs c = answer (reading c)
 
 -- under table A
 textA : String → Answer Reading → ReadingCase
@@ -83,62 +83,62 @@ blanks k = replicate k 32
 pub readings : List ReadingCase
 readings =
     -- 96 bytes, blanks and partition included; a blank is byte 32 and nothing else
-    bytesA (blanks 91 ++ bytes "1/5.3") (reads 53)
+    bytesA (blanks 91 ++ bytes "1/5.3") (readsAs 53)
     ∷ bytesA (blanks 92 ++ bytes "1/5.3") (refuse 4)
-    ∷ bytesA (zeros 93 ++ bytes "5.3") (reads 53)
+    ∷ bytesA (zeros 93 ++ bytes "5.3") (readsAs 53)
     ∷ bytesA (zeros 94 ++ bytes "5.3") (refuse 4)
     ∷ bytesA (blanks 97) (refuse 4)
     ∷ bytesA (bytes "5.3" ++ (9 ∷ [])) (refuse 5)
     ∷ bytesA (bytes "5.3" ++ (13 ∷ [])) (refuse 5)
     ∷ bytesA (bytes "5.3" ++ (0 ∷ [])) (refuse 5)
-    ∷ bytesA (bytes "5.3" ++ (32 ∷ [])) (reads 53)
+    ∷ bytesA (bytes "5.3" ++ (32 ∷ [])) (readsAs 53)
     -- a trailing mark opens one more, empty field; 7 before 6
-    ∷ textA "12.3" (reads 123)
-    ∷ textA "12" (reads 120)
-    ∷ textA "12." (reads 120)
+    ∷ textA "12.3" (readsAs 123)
+    ∷ textA "12" (readsAs 120)
+    ∷ textA "12." (readsAs 120)
     ∷ textA "12.." (refuse 7)
     ∷ under one "5." (refuse 7)
     ∷ textA ".." (refuse 7)
     ∷ textA "." (refuse 6)
     ∷ textA "" (refuse 6)
     -- blanks around a mark are dropped; a run of blanks between digits is a mark
-    ∷ under three " 1 : : 3" (reads 103)
+    ∷ under three " 1 : : 3" (readsAs 103)
     ∷ textA " 1 : : 3" (refuse 7)
-    ∷ textA " 12   3 " (reads 123)
+    ∷ textA " 12   3 " (readsAs 123)
     ∷ textA "1 2 3" (refuse 7)
     ∷ textA "   " (refuse 6)
     -- values are compared, not lengths
-    ∷ textA "00000000000000000000012.3" (reads 123)
-    ∷ stampA "00000000000000000000001/5.3" (reads 53)
+    ∷ textA "00000000000000000000012.3" (readsAs 123)
+    ∷ stampA "00000000000000000000001/5.3" (readsAs 53)
     ∷ bytesA (nines 96) (refuse 9)
     ∷ bytesA (nines 94 ++ bytes "/1") (refuse 10)
     ∷ stampA "18446744073709551617/1" (refuse 10)
     ∷ textA "18446744073709551617" (refuse 9)
     -- a field may exceed its modulus, the first too; reading gives no 9 for a count at or above P
-    ∷ textA "5.13" (reads 63)
-    ∷ textA "100.0" (reads 1_000)
+    ∷ textA "5.13" (readsAs 63)
+    ∷ textA "100.0" (readsAs 1_000)
     ∷ stampA "100.0" (refuse 11)
     -- a field of 10^15 + 1,000, and one more
-    ∷ under far "1000000000001000" (reads (10 ^ 15))
+    ∷ under far "1000000000001000" (readsAs (10 ^ 15))
     ∷ under far "1000000000001001" (refuse 9)
     -- a sum of 10^15, and one more
-    ∷ textA "99999999999999.10" (reads (10 ^ 15))
+    ∷ textA "99999999999999.10" (readsAs (10 ^ 15))
     ∷ textA "99999999999999.11" (refuse 9)
     -- the sum's 9 comes after every field; 9 before 8 in each field
     ∷ under offsetOne "999999999999999.0" (refuse 8)
     ∷ under offsetOne "9999999999999999.0" (refuse 9)
     -- a missing field adds no ticks whatever its offset; one below its offset is refused
-    ∷ under layoutB "20538:39" (reads 985_855_200)
-    ∷ under layoutB "20538:39:" (reads 985_855_200)
+    ∷ under layoutB "20538:39" (readsAs 985_855_200)
+    ∷ under layoutB "20538:39:" (readsAs 985_855_200)
     ∷ under layoutB "20538:39:0" (refuse 8)
-    ∷ under layoutB "20538:39:1" (reads 985_855_200)
+    ∷ under layoutB "20538:39:1" (readsAs 985_855_200)
     -- a partition is refuse after all that concerns the text
     ∷ stampA "0/" (refuse 6)
     ∷ stampA "0/x" (refuse 5)
     ∷ stampA "3/9999999999999999" (refuse 9)
     ∷ stampA "0/1" (refuse 10)
     -- the last partition, and one more
-    ∷ stampA "2/20.0" (reads 500)
+    ∷ stampA "2/20.0" (readsAs 500)
     ∷ stampA "3/20.0" (refuse 10)
     -- the front part: digits between blanks
     ∷ stampA "/5" (refuse 5)
@@ -148,22 +148,22 @@ readings =
     ∷ stampA "1/2/5" (refuse 5)
     ∷ textA "1/5" (refuse 5)
     ∷ stampA "1/" (refuse 6)
-    ∷ stampA " 1 / 5.3" (reads 53)
+    ∷ stampA " 1 / 5.3" (readsAs 53)
     -- an end belongs to its partition, named or not
-    ∷ stampA "50.0" (reads 500)
-    ∷ stampA "50.1" (reads 801)
-    ∷ stampA "1/50.0" (reads 500)
+    ∷ stampA "50.0" (readsAs 500)
+    ∷ stampA "50.1" (readsAs 801)
+    ∷ stampA "1/50.0" (readsAs 500)
     ∷ stampA "1/50.1" (refuse 11)
-    ∷ stampA "2/90.0" (reads 1_200)
+    ∷ stampA "2/90.0" (readsAs 1_200)
     ∷ stampA "90.1" (refuse 11)
     -- the message: L from 1, at most the length less 2, 96 and 97; 17 before 1 and 2
-    ∷ messageA (7 ∷ 208 ∷ (bytes "1/5.3" ++ (0 ∷ 5 ∷ []))) (reads 53)
+    ∷ messageA (7 ∷ 208 ∷ (bytes "1/5.3" ++ (0 ∷ 5 ∷ []))) (readsAs 53)
     ∷ messageA (7 ∷ 208 ∷ (bytes "1/5.3" ++ (0 ∷ 8 ∷ []))) (refuse 17)
-    ∷ messageA (bytes "1/5.3" ++ (0 ∷ 5 ∷ [])) (reads 53)
+    ∷ messageA (bytes "1/5.3" ++ (0 ∷ 5 ∷ [])) (readsAs 53)
     ∷ messageA (bytes "1/5.3" ++ (0 ∷ 6 ∷ [])) (refuse 17)
     ∷ messageA (bytes "1/5.3" ++ (0 ∷ 0 ∷ [])) (refuse 17)
     ∷ messageA (bytes "1/5.3" ++ (1 ∷ 5 ∷ [])) (refuse 17)
-    ∷ messageA (zeros 94 ++ bytes "5.3" ++ (0 ∷ 96 ∷ [])) (reads 53)
+    ∷ messageA (zeros 94 ++ bytes "5.3" ++ (0 ∷ 96 ∷ [])) (readsAs 53)
     ∷ messageA (zeros 94 ++ bytes "5.3" ++ (0 ∷ 97 ∷ [])) (refuse 17)
     ∷ messageA [] (refuse 17)
     ∷ messageA (0 ∷ []) (refuse 17)
@@ -179,5 +179,5 @@ readings =
     ∷ []
 
 pub readings-hold : map (λ r. answerTo (r .asked)) readings ≡ map (λ r. r .expected) readings
-unfolding computing bytes layoutA partitionsA layoutB answerTo reads textA stampA bytesA messageA layout under one three offsetOne far noLayout noPartitions nines zeros blanks readings
+unfolding computing bytes layoutA partitionsA layoutB answerTo readsAs textA stampA bytesA messageA layout under one three offsetOne far noLayout noPartitions nines zeros blanks readings
 readings-hold = refl
