@@ -1,1 +1,2 @@
+pub mod StampWithin
 pub mod Refusals

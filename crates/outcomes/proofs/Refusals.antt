@@ -1,6 +1,6 @@
 -- No call gives a refusal outside its set.
 use Prim.Native.Nat.{ℕ, _-_, _≤_}
-use mathlib.Core.Path.{_≡_, refl}
+use mathlib.Core.Path.{_≡_, refl, sym, subst}
 use mathlib.Core.Bool.{Bool, true, false}
 use mathlib.Core.List.{List, [], _∷_}
 use mathlib.Core.Option.{Option, none, some}
@@ -13,15 +13,19 @@ use Rattle.base.specs.Scans.{among}
 use Rattle.base.proofs.Tests.{by-test, all-of-head, all-of-tail}
 use Rattle.rules.specs.Limits.{longestText}
 use Rattle.rules.specs.declared.Layout.{Layout}
-use Rattle.rules.specs.Answer.{Answer, answer, refused, unless, andThen}
-use Rattle.rules.specs.Layout.{layoutOk}
-use Rattle.rules.specs.Partitions.{Partitions, partitionsOk}
+use Rattle.rules.specs.declared.Refusal.{Refusal}
+use Rattle.rules.specs.declared.Reading.{Reading}
+use Rattle.rules.specs.Answer.{Answer, answer, refused, numbered, unless, andThen}
+use Rattle.rules.specs.Layout.{moduliOf, offsetsOf}
+use Rattle.rules.specs.Partitions.{Partitions}
 use Rattle.rules.specs.Segments.{Segments}
-use Rattle.rules.specs.Text.{Field, readText, fieldsCount, eachField}
-use Rattle.rules.specs.Stamp.{readStamp, stampAt, slashIn, encodeNamed, encodeFound, encodeFirst}
+use Rattle.rules.specs.Text.{Field, readText, parseText, bytesCount, fieldsCount, eachField}
+use Rattle.rules.specs.Stamp.{Parsed, named, unnamed, readStamp, parseStamp, parsedAt, encode, encodeNamed, encodeFound, encodeFirst}
 use Rattle.rules.specs.Message.{readMessage, messageOk, textLength, textIn}
 use Rattle.rules.specs.Print.{printCount, printStamp, fitting}
-use Rattle.rules.specs.Time.{timeOf, timeIn, countAt, countIn, stepsBackIn, accepted, segmentOf, segmentAt}
+use Rattle.rules.specs.Time.{timeOf, timeIn, timeOn, countAt, countIn, countOn, notBeyond, stepsBackIn, accepted, segmentOf, segmentAt}
+use Rattle.rules.specs.StampTime.{withTime, timeOfStamp}
+use Rattle.rules.proofs.Answers.{not-answer}
 use Rattle.outcomes.specs.Refusals.{
   textRefusals,
   stampRefusals,
@@ -30,56 +34,73 @@ use Rattle.outcomes.specs.Refusals.{
   printStampRefusals,
   timeOfRefusals,
   countAtRefusals,
+  timeOfStampRefusals,
   stepsBackRefusals,
   OnlyRefuses,
   Refusals,
 }
+use Rattle.outcomes.proofs.StampWithin.{stamp-within}
 
 module _ {A : Type 0} (ks : List ℕ) where
   answers : (x : A) → OnlyRefuses ks (answer x)
-  answers x k e = let z : _≡_ {A = ℕ} 0 1 = cc in absurd (omega arith)
+  answers x k e = absurd (not-answer (sym e))
 
-  refuses : (n : ℕ) → among n ks ≡ true → OnlyRefuses {A = A} ks (refused n)
-  refuses n h k e = let same : n ≡ k = cc in rw same at h
+  refuses : (k : Refusal) → among (k .number) ks ≡ true → OnlyRefuses {A = A} ks (refused k)
+  refuses k h j e = let same : k ≡ j = cc in subst (λ r. among (r .number) ks ≡ true) same h
 
   -- one rung of a call's ladder
   rung : (n : ℕ) (b : Bool) (a : Answer A) → among n ks ≡ true → OnlyRefuses ks a → OnlyRefuses ks (unless n b a)
   unfolding unless
   rung n true a h f = f
-  rung n false a h f = refuses n h
+  rung n false a h f = refuses (numbered n) h
 
-then : {A B : Type 0} (ks : List ℕ) (a : Answer A) (f : A → Answer B) → OnlyRefuses ks a → ((x : A) → OnlyRefuses ks (f x)) → OnlyRefuses ks (andThen a f)
+then : {A B : Type 0} (ks : List ℕ) (a : Answer A) (f : A → Answer B) → OnlyRefuses ks a → ((x : A) → a ≡ answer x → OnlyRefuses ks (f x)) → OnlyRefuses ks (andThen a f)
 unfolding andThen
-then ks (answer x) f h g = g x
-then {A} {B} ks (refused n) f h g = refuses ks n (h n refl)
+then ks (answer x) f h g = g x refl
+then ks (refused k) f h g = refuses ks k (h k refl)
 
--- the text's fields, under any set that has 6, 7, 8 and 9
-module _ (ks : List ℕ) (six : among 6 ks ≡ true) (seven : among 7 ks ≡ true) (eight : among 8 ks ≡ true) (nine : among 9 ks ≡ true) where
-  each-only : (fs : List Field) (os : List ℕ) (a : Answer ℕ) → OnlyRefuses ks a → OnlyRefuses ks (eachField fs os a)
-  unfolding eachField
-  each-only [] os a h = h
-  each-only (f ∷ fs) [] a h = h
-  each-only (f ∷ fs) (o ∷ os) a h = rung ks 9 _ _ nine (rung ks 8 _ _ eight (each-only fs os a h))
+-- the bytes of a text, under any set that has 5 to 9
+module _
+    (ks : List ℕ) (five : among 5 ks ≡ true) (six : among 6 ks ≡ true) (seven : among 7 ks ≡ true) (eight : among 8 ks ≡ true)
+    (nine : among 9 ks ≡ true)
+  where
+    each-only : (fs : List Field) (os : List ℕ) (a : Answer Reading) → OnlyRefuses ks a → OnlyRefuses ks (eachField fs os a)
+    unfolding eachField
+    each-only [] os a h = h
+    each-only (f ∷ fs) [] a h = h
+    each-only (f ∷ fs) (o ∷ os) a h = rung ks 9 _ _ nine (rung ks 8 _ _ eight (each-only fs os a h))
 
-  fields-only : (l : Layout) (fs : List Field) → OnlyRefuses ks (fieldsCount l fs)
-  unfolding fieldsCount
-  fields-only l fs = rung ks 7 _ _ seven (rung ks 6 _ _ six (each-only fs _ _ (rung ks 9 _ _ nine (answers ks _))))
+    bytes-only : (ms os s : List ℕ) → OnlyRefuses ks (bytesCount ms os s)
+    unfolding bytesCount fieldsCount
+    bytes-only ms os s =
+        rung ks 5 _ _ five (rung ks 7 _ _ seven (rung ks 6 _ _ six (each-only _ _ _ (rung ks 9 _ _ nine (answers ks _)))))
 
-  -- a stamp's text, under any set that also has 5, 10 and 11
-  module _ (five : among 5 ks ≡ true) (ten : among 10 ks ≡ true) (eleven : among 11 ks ≡ true) (p : Partitions) where
-    named-only : (n c : ℕ) → OnlyRefuses ks (encodeNamed p n c)
-    unfolding encodeNamed
-    named-only n c = rung ks 10 _ _ ten (rung ks 11 _ _ eleven (answers ks _))
+    parsed-only : (ms os s : List ℕ) (o : Option ℕ) → OnlyRefuses ks (parsedAt ms os s o)
+    unfolding parsedAt
+    parsed-only ms os s none = then ks _ _ (bytes-only ms os s) (λ r _. answers ks _)
+    parsed-only ms os s (some i) = rung ks 5 _ _ five (then ks _ _ (bytes-only ms os _) (λ r _. answers ks _))
 
-    found-only : (c : ℕ) (o : Option ℕ) → OnlyRefuses ks (encodeFound p c o)
-    unfolding encodeFound
-    found-only c none = refuses ks 11 eleven
-    found-only c (some i) = answers ks _
+    parse-only : among 4 ks ≡ true → (ms os s : List ℕ) → OnlyRefuses ks (parseStamp ms os s)
+    unfolding parseStamp
+    parse-only four ms os s = rung ks 4 _ _ four (parsed-only ms os s _)
 
-    stamp-only : (l : Layout) (s : List ℕ) (o : Option ℕ) → OnlyRefuses ks (stampAt l p s o)
-    unfolding stampAt encodeFirst
-    stamp-only l s none = rung ks 5 _ _ five (then ks _ _ (fields-only l _) (λ c. found-only c _))
-    stamp-only l s (some i) = rung ks 5 _ _ five (then ks _ _ (fields-only l _) (λ c. named-only _ c))
+    -- a stamp whose text is parsed, under any set that also has 1, 2, 10 and 11
+    module _
+        (one : among 1 ks ≡ true) (two : among 2 ks ≡ true) (ten : among 10 ks ≡ true) (eleven : among 11 ks ≡ true) (p : Partitions)
+      where
+        found-only : (c : ℕ) (o : Option ℕ) → OnlyRefuses ks (encodeFound p c o)
+        unfolding encodeFound
+        found-only c none = refuses ks (numbered 11) eleven
+        found-only c (some i) = answers ks _
+
+        encode-only : (x : Parsed) → OnlyRefuses ks (encode p x)
+        unfolding encode encodeNamed encodeFirst
+        encode-only (named k r) = then ks _ _ (rung ks 10 _ _ ten (rung ks 11 _ _ eleven (answers ks _))) (λ e _. answers ks _)
+        encode-only (unnamed r) = then ks _ _ (found-only (r .count) _) (λ e _. answers ks _)
+
+        stamp-only : (l : Layout) (s : List ℕ) → OnlyRefuses ks (parseStamp (moduliOf l) (offsetsOf l) s) → OnlyRefuses ks (readStamp l p s)
+        unfolding readStamp
+        stamp-only l s h = rung ks 1 _ _ one (rung ks 2 _ _ two (then ks _ _ h (λ x _. encode-only x)))
 
 fitting-only : (ks : List ℕ) → among 16 ks ≡ true → (room : ℕ) (s : List ℕ) → OnlyRefuses ks (fitting room s)
 unfolding fitting
@@ -91,15 +112,15 @@ accepted-only : {A : Type 0} (ks : List ℕ) → among 1 ks ≡ true → among 2
 unfolding accepted
 accepted-only ks one two three l p g a h = rung ks 1 _ _ one (rung ks 2 _ _ two (rung ks 3 _ _ three h))
 
-time-only : (l : Layout) (g : Segments) (e : ℕ) (o : Option ℕ) → OnlyRefuses timeOfRefusals (timeIn l g e o)
-unfolding timeIn timeOfRefusals among
-time-only l g e none = refuses timeOfRefusals 13 refl
-time-only l g e (some i) = answers timeOfRefusals _
+time-only : (ks : List ℕ) → among 13 ks ≡ true → (unit : ℕ) (g : Segments) (e : ℕ) (o : Option ℕ) → OnlyRefuses ks (timeOn unit g e o)
+unfolding timeOn
+time-only ks h unit g e none = refuses ks (numbered 13) h
+time-only ks h unit g e (some i) = answers ks _
 
-count-only : (l : Layout) (p : Partitions) (g : Segments) (t : ℤ) (o : Option ℕ) → OnlyRefuses countAtRefusals (countIn l p g t o)
-unfolding countIn countAtRefusals among
-count-only l p g t none = refuses countAtRefusals 13 refl
-count-only l p g t (some i) = rung countAtRefusals 14 _ _ refl (answers countAtRefusals _)
+count-only : (unit total : ℕ) (g : Segments) (t : ℤ) (o : Option ℕ) → OnlyRefuses countAtRefusals (countOn unit total g t o)
+unfolding countOn notBeyond countAtRefusals among
+count-only unit total g t none = refuses countAtRefusals (numbered 13) refl
+count-only unit total g t (some i) = rung countAtRefusals 14 _ _ refl (answers countAtRefusals _)
 
 -- the text of a message has at most 96 bytes
 message-short : (m : List ℕ) → messageOk m ≡ true → leb (length (textIn m)) longestText ≡ true
@@ -110,23 +131,36 @@ message-short m h = le-leb _ _ (short (leb-true _ _ (all-of-head _ _ (all-of-tai
     short b = omega (arith, length-take (textLength m) (drop (length m - 2 - textLength m) m))
 
 message-only : (l : Layout) (p : Partitions) (m : List ℕ) → OnlyRefuses messageRefusals (readMessage l p m)
-unfolding readMessage readStamp messageRefusals among unless
+unfolding readMessage parseStamp messageRefusals among unless
 message-only l p m =
+    let ks = messageRefusals in
     by-test (messageOk m)
-    (λ t. rw (t, message-short m t)
-    (rung messageRefusals 1 (layoutOk l) _ refl (rung messageRefusals 2 (partitionsOk l p) _ refl (stamp-only messageRefusals refl refl refl refl refl refl refl p l (textIn m) (slashIn (textIn m))))))
-    (λ f. rw f (refuses messageRefusals 17 refl))
+    (λ t. rw t (stamp-only ks refl refl refl refl refl refl refl refl refl p l (textIn m) (rw (message-short m t) (parsed-only ks refl refl refl refl refl _ _ _ _))))
+    (λ f. rw f (refuses ks (numbered 17) refl))
+
+-- the encoded count of a stamp is at most the total, so that no 12 comes
+time-within : (ks : List ℕ) → among 13 ks ≡ true → (unit total : ℕ) (g : Segments) (e : ℕ) → leb e total ≡ true → OnlyRefuses ks (timeIn unit total g e)
+unfolding timeIn unless
+time-within ks h unit total g e b = rw b (time-only ks h unit g e (segmentOf g e))
+
+stamp-time-only : (l : Layout) (p : Partitions) (g : Segments) (s : List ℕ) → OnlyRefuses timeOfStampRefusals (timeOfStamp l p g s)
+unfolding timeOfStamp withTime timeOf timeOfStampRefusals among
+stamp-time-only l p g s =
+    let ks = timeOfStampRefusals in
+    then ks _ _ (stamp-only ks refl refl refl refl refl refl refl refl refl p l s (parse-only ks refl refl refl refl refl refl _ _ s))
+    (λ r h. then ks _ _ (accepted-only ks refl refl refl l p g _ (time-within ks refl _ _ g _ (stamp-within l p s r h))) (λ t _. answers ks _))
 
 pub only-those : Refusals
-unfolding readText readStamp printCount printStamp timeOf countAt stepsBackIn textRefusals stampRefusals printCountRefusals printStampRefusals timeOfRefusals countAtRefusals stepsBackRefusals among
+unfolding readText parseText printCount printStamp timeOf timeIn countAt countIn stepsBackIn textRefusals stampRefusals printCountRefusals printStampRefusals timeOfRefusals countAtRefusals stepsBackRefusals among
 only-those =
     record {
-      text = λ l s. rung textRefusals 1 _ _ refl (rung textRefusals 4 _ _ refl (rung textRefusals 5 _ _ refl (fields-only textRefusals refl refl refl refl l _)));
-      stamp = λ l p s. rung stampRefusals 1 _ _ refl (rung stampRefusals 2 _ _ refl (rung stampRefusals 4 _ _ refl (stamp-only stampRefusals refl refl refl refl refl refl refl p l s (slashIn s))));
+      text = λ l s. rung textRefusals 1 _ _ refl (rung textRefusals 4 _ _ refl (bytes-only textRefusals refl refl refl refl refl _ _ s));
+      stamp = λ l p s. stamp-only stampRefusals refl refl refl refl refl refl refl refl refl p l s (parse-only stampRefusals refl refl refl refl refl refl _ _ s);
       message = message-only;
       print-count = λ l c room. rung printCountRefusals 1 _ _ refl (rung printCountRefusals 9 _ _ refl (fitting-only printCountRefusals refl room _));
       print-stamp = λ l p e room. rung printStampRefusals 1 _ _ refl (rung printStampRefusals 2 _ _ refl (rung printStampRefusals 12 _ _ refl (fitting-only printStampRefusals refl room _)));
-      time-of = λ l p g e. accepted-only timeOfRefusals refl refl refl l p g _ (rung timeOfRefusals 12 _ _ refl (time-only l g e (segmentOf g e)));
-      count-at = λ l p g t. accepted-only countAtRefusals refl refl refl l p g _ (rung countAtRefusals 14 _ _ refl (count-only l p g t (segmentAt g t)));
+      time-of = λ l p g e. accepted-only timeOfRefusals refl refl refl l p g _ (rung timeOfRefusals 12 _ _ refl (time-only timeOfRefusals refl _ g e (segmentOf g e)));
+      count-at = λ l p g t. accepted-only countAtRefusals refl refl refl l p g _ (rung countAtRefusals 14 _ _ refl (count-only _ _ g t (segmentAt g t)));
+      time-of-stamp = stamp-time-only;
       steps-back = λ l p g. accepted-only stepsBackRefusals refl refl refl l p g _ (answers stepsBackRefusals _);
     }

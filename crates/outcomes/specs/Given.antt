@@ -4,67 +4,17 @@ use mathlib.Core.Path.{_≡_, refl}
 use mathlib.Core.List.{List, [], _∷_, _++_, map}
 use lib.IntN.{pos, negsuc}
 use lib.ListN.{replicate}
-use Rattle.base.specs.Scans.{allOf, allBelow, someBelow, all, product, firstBelow, lastBelow, orElse, sumBelow}
-use Rattle.base.specs.Rounding.{roundUp, roundDown}
-use Rattle.base.specs.Signed.{later, elapsed}
 use Rattle.rules.specs.declared.Layout.{Layout}
-use Rattle.rules.specs.Answer.{refused, unless, andThen}
-use Rattle.rules.specs.Layout.{layoutOk, productOf, msfOf}
-use Rattle.rules.specs.Partitions.{Partitions, partitions, partitionsOk, partitionOk, totalOf, lengthsBefore}
-use Rattle.rules.specs.Segments.{
-  Segments,
-  segments,
-  segmentsOk,
-  segmentOk,
-  rowOk,
-  growsAt,
-  lineOk,
-  lineAt,
-  segmentEnd,
-  unitOf,
-  stepsBack,
-  stepsBackAt,
-}
-use Rattle.rules.specs.Text.{
-  readText,
-  fieldsCount,
-  fieldsOf,
-  between,
-  withDigit,
-  symbolsFrom,
-  symbolsAt,
-  digitAfter,
-  after,
-  afterBlank,
-  eachField,
-  notAbove,
-  notBelow,
-  sumOf,
-  ticksOf,
-  valueOf,
-  valueFrom,
-}
-use Rattle.rules.specs.Stamp.{readStamp, stampAt, slashIn, frontOk, frontNumber, holds, encodedIn, encodeNamed, encodeFound, encodeFirst}
-use Rattle.rules.specs.Message.{readMessage, messageOk, textLength, textIn}
-use Rattle.rules.specs.Print.{
-  printCount,
-  printStamp,
-  stampPrint,
-  countPrint,
-  fieldsPrint,
-  fieldPrint,
-  fieldWidth,
-  padded,
-  lastDigits,
-  digitCount,
-  digitsUpTo,
-  delimiterByte,
-  foundOrLast,
-  partitionOf,
-  decodedIn,
-  fitting,
-}
-use Rattle.rules.specs.Time.{timeOf, timeIn, segmentOf, countAt, countIn, segmentAt, lineCount, stoppedAt, accepted, stepsBackIn}
+use Rattle.rules.specs.Answer.{refuse}
+use Rattle.rules.specs.Partitions.{Partitions, partitions}
+use Rattle.rules.specs.Segments.{Segments, segments}
+use Rattle.rules.specs.Text.{readText}
+use Rattle.rules.specs.Stamp.{readStamp}
+use Rattle.rules.specs.Message.{readMessage}
+use Rattle.rules.specs.Print.{printCount, printStamp}
+use Rattle.rules.specs.Time.{timeOf, countAt, stepsBackIn}
+use Rattle.rules.specs.StampTime.{timeOfStamp}
+use Rattle.rules.specs.Computing.{computing}
 use Rattle.rules.specs.Examples.{bytes, layoutA, partitionsA, segmentsA, layoutB}
 use Rattle.outcomes.specs.Refusals.{
   textRefusals,
@@ -74,6 +24,7 @@ use Rattle.outcomes.specs.Refusals.{
   printStampRefusals,
   timeOfRefusals,
   countAtRefusals,
+  timeOfStampRefusals,
   stepsBackRefusals,
 }
 
@@ -101,26 +52,32 @@ message n s = 7 ∷ s ++ (0 ∷ n ∷ [])
 pub refusals-given :
     ((readText noLayout [] ∷ readText layoutA tooLong ∷ readText layoutA (bytes "x") ∷ readText layoutA (bytes ".5") ∷ readText layoutA (bytes "1.2.3")
     ∷ readText layoutB (bytes "1:1:0") ∷ readText layoutA (bytes "1000000000001001") ∷ [])
-    ≡ map refused textRefusals)
+    ≡ map refuse textRefusals)
     × ((readStamp noLayout partitionsA [] ∷ readStamp layoutA noPartitions [] ∷ readStamp layoutA partitionsA tooLong ∷ readStamp layoutA partitionsA (bytes "/5")
     ∷ readStamp layoutA partitionsA (bytes "1/") ∷ readStamp layoutA partitionsA (bytes "1/1.2.3") ∷ readStamp layoutB partitionsA (bytes "1/1:1:0")
     ∷ readStamp layoutA partitionsA (bytes "1000000000001001") ∷ readStamp layoutA partitionsA (bytes "3/1") ∷ readStamp layoutA partitionsA (bytes "1/50.1") ∷ [])
-    ≡ map refused stampRefusals)
+    ≡ map refuse stampRefusals)
     × ((readMessage layoutA partitionsA [] ∷ readMessage noLayout partitionsA (message 1 (bytes "5")) ∷ readMessage layoutA noPartitions (message 1 (bytes "5"))
     ∷ readMessage layoutA partitionsA (message 1 (bytes "x")) ∷ readMessage layoutA partitionsA (message 1 (bytes " ")) ∷ readMessage layoutA partitionsA (message 5 (bytes "1.2.3"))
     ∷ readMessage layoutB partitionsA (message 5 (bytes "1:1:0")) ∷ readMessage layoutA partitionsA (message 16 (bytes "1000000000001001"))
     ∷ readMessage layoutA partitionsA (message 3 (bytes "3/1")) ∷ readMessage layoutA partitionsA (message 6 (bytes "1/50.1")) ∷ [])
-    ≡ map refused messageRefusals)
-    × ((printCount noLayout 0 96 ∷ printCount layoutA 1_000 96 ∷ printCount layoutA 999 3 ∷ []) ≡ map refused printCountRefusals)
+    ≡ map refuse messageRefusals)
+    × ((printCount noLayout 0 96 ∷ printCount layoutA 1_000 96 ∷ printCount layoutA 999 3 ∷ []) ≡ map refuse printCountRefusals)
     × ((printStamp noLayout partitionsA 0 96 ∷ printStamp layoutA noPartitions 0 96 ∷ printStamp layoutA partitionsA 1_201 96 ∷ printStamp layoutA partitionsA 0 5 ∷ [])
-    ≡ map refused printStampRefusals)
+    ≡ map refuse printStampRefusals)
     × ((timeOf noLayout partitionsA segmentsA 0 ∷ timeOf layoutA noPartitions segmentsA 0 ∷ timeOf layoutA partitionsA noSegments 0
     ∷ timeOf layoutA partitionsA segmentsA 1_201 ∷ timeOf layoutA partitionsA lateSegments 0 ∷ [])
-    ≡ map refused timeOfRefusals)
+    ≡ map refuse timeOfRefusals)
     × ((countAt noLayout partitionsA segmentsA (pos 0) ∷ countAt layoutA noPartitions segmentsA (pos 0) ∷ countAt layoutA partitionsA noSegments (pos 0)
     ∷ countAt layoutA partitionsA segmentsA (negsuc 1_000) ∷ countAt layoutA partitionsA segmentsA (pos 2_803) ∷ [])
-    ≡ map refused countAtRefusals)
+    ≡ map refuse countAtRefusals)
+    × ((timeOfStamp noLayout partitionsA segmentsA [] ∷ timeOfStamp layoutA noPartitions segmentsA [] ∷ timeOfStamp layoutA partitionsA segmentsA tooLong
+    ∷ timeOfStamp layoutA partitionsA segmentsA (bytes "/5") ∷ timeOfStamp layoutA partitionsA segmentsA (bytes "1/") ∷ timeOfStamp layoutA partitionsA segmentsA (bytes "1/1.2.3")
+    ∷ timeOfStamp layoutB partitionsA segmentsA (bytes "1/1:1:0") ∷ timeOfStamp layoutA partitionsA segmentsA (bytes "1000000000001001")
+    ∷ timeOfStamp layoutA partitionsA segmentsA (bytes "3/1") ∷ timeOfStamp layoutA partitionsA segmentsA (bytes "1/50.1")
+    ∷ timeOfStamp layoutA partitionsA noSegments (bytes "1/0.0") ∷ timeOfStamp layoutA partitionsA lateSegments (bytes "1/0.0") ∷ [])
+    ≡ map refuse timeOfStampRefusals)
     × ((stepsBackIn noLayout partitionsA segmentsA ∷ stepsBackIn layoutA noPartitions segmentsA ∷ stepsBackIn layoutA partitionsA noSegments ∷ [])
-    ≡ map refused stepsBackRefusals)
-unfolding allOf allBelow someBelow all product firstBelow lastBelow orElse sumBelow roundUp roundDown later elapsed unless andThen layoutOk productOf msfOf partitionsOk partitionOk totalOf lengthsBefore segmentsOk segmentOk rowOk growsAt lineOk lineAt segmentEnd unitOf stepsBack stepsBackAt readText fieldsCount fieldsOf between withDigit symbolsFrom symbolsAt digitAfter after afterBlank eachField notAbove notBelow sumOf ticksOf valueOf valueFrom readStamp stampAt slashIn frontOk frontNumber holds encodedIn encodeNamed encodeFound encodeFirst readMessage messageOk textLength textIn printCount printStamp stampPrint countPrint fieldsPrint fieldPrint fieldWidth padded lastDigits digitCount digitsUpTo delimiterByte foundOrLast partitionOf decodedIn fitting timeOf timeIn segmentOf countAt countIn segmentAt lineCount stoppedAt accepted stepsBackIn bytes layoutA partitionsA segmentsA layoutB textRefusals stampRefusals messageRefusals printCountRefusals printStampRefusals timeOfRefusals countAtRefusals stepsBackRefusals noLayout noPartitions noSegments lateSegments tooLong message
-refusals-given = (refl, refl, refl, refl, refl, refl, refl, refl)
+    ≡ map refuse stepsBackRefusals)
+unfolding computing bytes layoutA partitionsA segmentsA layoutB textRefusals stampRefusals messageRefusals printCountRefusals printStampRefusals timeOfRefusals countAtRefusals timeOfStampRefusals stepsBackRefusals noLayout noPartitions noSegments lateSegments tooLong message
+refusals-given = (refl, refl, refl, refl, refl, refl, refl, refl, refl)

@@ -4,66 +4,51 @@ use mathlib.Core.Path.{_≡_, refl}
 use mathlib.Core.List.{List, [], _∷_, _++_, map}
 use Prim.Native.String.{String}
 use lib.ListN.{replicate}
-use Rattle.base.specs.Scans.{allOf, allBelow, all, product, firstBelow, orElse, sumBelow}
 use Rattle.rules.specs.declared.Layout.{Layout}
-use Rattle.rules.specs.Answer.{Answer, answer, refused, unless, andThen}
-use Rattle.rules.specs.Layout.{layoutOk, productOf, msfOf}
-use Rattle.rules.specs.Partitions.{Partitions, partitions, partitionsOk, partitionOk, totalOf, lengthsBefore}
-use Rattle.rules.specs.Text.{
-  readText,
-  fieldsCount,
-  fieldsOf,
-  between,
-  withDigit,
-  symbolsFrom,
-  symbolsAt,
-  digitAfter,
-  after,
-  afterBlank,
-  eachField,
-  notAbove,
-  notBelow,
-  sumOf,
-  ticksOf,
-  valueOf,
-  valueFrom,
-}
-use Rattle.rules.specs.Stamp.{readStamp, stampAt, slashIn, frontOk, frontNumber, holds, encodedIn, encodeNamed, encodeFound, encodeFirst}
-use Rattle.rules.specs.Message.{readMessage, messageOk, textLength, textIn}
+use Rattle.rules.specs.declared.Reading.{Reading}
+use Rattle.rules.specs.Answer.{Answer, answer, refuse, reading}
+use Rattle.rules.specs.Partitions.{Partitions, partitions}
+use Rattle.rules.specs.Text.{readText}
+use Rattle.rules.specs.Stamp.{readStamp}
+use Rattle.rules.specs.Message.{readMessage}
+use Rattle.rules.specs.Computing.{computing}
 use Rattle.rules.specs.Examples.{bytes, layoutA, partitionsA, layoutB}
 
-pub data Question : Type 0 where
-  text : Layout → List ℕ → Question
-  stamp : Layout → Partitions → List ℕ → Question
-  message : Layout → Partitions → List ℕ → Question
+pub data ToRead : Type 0 where
+  text : Layout → List ℕ → ToRead
+  stamp : Layout → Partitions → List ℕ → ToRead
+  message : Layout → Partitions → List ℕ → ToRead
 
-pub answerTo : Question → Answer ℕ
+pub answerTo : ToRead → Answer Reading
 answerTo (text l s) = readText l s
 answerTo (stamp l p s) = readStamp l p s
 answerTo (message l p m) = readMessage l p m
 
-pub record Reading : Type 0 where
-  pub asked : Question
-  pub expected : Answer ℕ
+pub record ReadingCase : Type 0 where
+  pub asked : ToRead
+  pub expected : Answer Reading
+
+readsAs : ℕ → Answer Reading
+readsAs c = answer (reading c)
 
 -- under table A
-textA : String → Answer ℕ → Reading
+textA : String → Answer Reading → ReadingCase
 textA s a = record { asked = text layoutA (bytes s); expected = a }
 
-stampA : String → Answer ℕ → Reading
+stampA : String → Answer Reading → ReadingCase
 stampA s a = record { asked = stamp layoutA partitionsA (bytes s); expected = a }
 
-bytesA : List ℕ → Answer ℕ → Reading
+bytesA : List ℕ → Answer Reading → ReadingCase
 bytesA s a = record { asked = stamp layoutA partitionsA s; expected = a }
 
-messageA : List ℕ → Answer ℕ → Reading
+messageA : List ℕ → Answer Reading → ReadingCase
 messageA m a = record { asked = message layoutA partitionsA m; expected = a }
 
 -- under another layout, of the moduli and offsets given
 layout : ℕ → List ℕ → List ℕ → Layout
 layout n ms os = record { n = n; moduli = ms ++ replicate (10 - n) 0; offsets = os ++ replicate (10 - n) 0; delimiter = 1 }
 
-under : Layout → String → Answer ℕ → Reading
+under : Layout → String → Answer Reading → ReadingCase
 under l s a = record { asked = text l (bytes s); expected = a }
 
 one : Layout
@@ -73,8 +58,8 @@ three : Layout
 three = layout 3 (100 ∷ 10 ∷ 10 ∷ []) (0 ∷ 0 ∷ 0 ∷ [])
 
 -- the second offset is 1; the one offset is the largest
-later : Layout
-later = layout 2 (100 ∷ 10 ∷ []) (0 ∷ 1 ∷ [])
+offsetOne : Layout
+offsetOne = layout 2 (100 ∷ 10 ∷ []) (0 ∷ 1 ∷ [])
 
 far : Layout
 far = layout 1 ((10 ^ 15) ∷ []) (1_000 ∷ [])
@@ -95,104 +80,104 @@ zeros k = replicate k 48
 blanks : ℕ → List ℕ
 blanks k = replicate k 32
 
-pub readings : List Reading
+pub readings : List ReadingCase
 readings =
     -- 96 bytes, blanks and partition included; a blank is byte 32 and nothing else
-    bytesA (blanks 91 ++ bytes "1/5.3") (answer 53)
-    ∷ bytesA (blanks 92 ++ bytes "1/5.3") (refused 4)
-    ∷ bytesA (zeros 93 ++ bytes "5.3") (answer 53)
-    ∷ bytesA (zeros 94 ++ bytes "5.3") (refused 4)
-    ∷ bytesA (blanks 97) (refused 4)
-    ∷ bytesA (bytes "5.3" ++ (9 ∷ [])) (refused 5)
-    ∷ bytesA (bytes "5.3" ++ (13 ∷ [])) (refused 5)
-    ∷ bytesA (bytes "5.3" ++ (0 ∷ [])) (refused 5)
-    ∷ bytesA (bytes "5.3" ++ (32 ∷ [])) (answer 53)
+    bytesA (blanks 91 ++ bytes "1/5.3") (readsAs 53)
+    ∷ bytesA (blanks 92 ++ bytes "1/5.3") (refuse 4)
+    ∷ bytesA (zeros 93 ++ bytes "5.3") (readsAs 53)
+    ∷ bytesA (zeros 94 ++ bytes "5.3") (refuse 4)
+    ∷ bytesA (blanks 97) (refuse 4)
+    ∷ bytesA (bytes "5.3" ++ (9 ∷ [])) (refuse 5)
+    ∷ bytesA (bytes "5.3" ++ (13 ∷ [])) (refuse 5)
+    ∷ bytesA (bytes "5.3" ++ (0 ∷ [])) (refuse 5)
+    ∷ bytesA (bytes "5.3" ++ (32 ∷ [])) (readsAs 53)
     -- a trailing mark opens one more, empty field; 7 before 6
-    ∷ textA "12.3" (answer 123)
-    ∷ textA "12" (answer 120)
-    ∷ textA "12." (answer 120)
-    ∷ textA "12.." (refused 7)
-    ∷ under one "5." (refused 7)
-    ∷ textA ".." (refused 7)
-    ∷ textA "." (refused 6)
-    ∷ textA "" (refused 6)
+    ∷ textA "12.3" (readsAs 123)
+    ∷ textA "12" (readsAs 120)
+    ∷ textA "12." (readsAs 120)
+    ∷ textA "12.." (refuse 7)
+    ∷ under one "5." (refuse 7)
+    ∷ textA ".." (refuse 7)
+    ∷ textA "." (refuse 6)
+    ∷ textA "" (refuse 6)
     -- blanks around a mark are dropped; a run of blanks between digits is a mark
-    ∷ under three " 1 : : 3" (answer 103)
-    ∷ textA " 1 : : 3" (refused 7)
-    ∷ textA " 12   3 " (answer 123)
-    ∷ textA "1 2 3" (refused 7)
-    ∷ textA "   " (refused 6)
+    ∷ under three " 1 : : 3" (readsAs 103)
+    ∷ textA " 1 : : 3" (refuse 7)
+    ∷ textA " 12   3 " (readsAs 123)
+    ∷ textA "1 2 3" (refuse 7)
+    ∷ textA "   " (refuse 6)
     -- values are compared, not lengths
-    ∷ textA "00000000000000000000012.3" (answer 123)
-    ∷ stampA "00000000000000000000001/5.3" (answer 53)
-    ∷ bytesA (nines 96) (refused 9)
-    ∷ bytesA (nines 94 ++ bytes "/1") (refused 10)
-    ∷ stampA "18446744073709551617/1" (refused 10)
-    ∷ textA "18446744073709551617" (refused 9)
+    ∷ textA "00000000000000000000012.3" (readsAs 123)
+    ∷ stampA "00000000000000000000001/5.3" (readsAs 53)
+    ∷ bytesA (nines 96) (refuse 9)
+    ∷ bytesA (nines 94 ++ bytes "/1") (refuse 10)
+    ∷ stampA "18446744073709551617/1" (refuse 10)
+    ∷ textA "18446744073709551617" (refuse 9)
     -- a field may exceed its modulus, the first too; reading gives no 9 for a count at or above P
-    ∷ textA "5.13" (answer 63)
-    ∷ textA "100.0" (answer 1_000)
-    ∷ stampA "100.0" (refused 11)
+    ∷ textA "5.13" (readsAs 63)
+    ∷ textA "100.0" (readsAs 1_000)
+    ∷ stampA "100.0" (refuse 11)
     -- a field of 10^15 + 1,000, and one more
-    ∷ under far "1000000000001000" (answer (10 ^ 15))
-    ∷ under far "1000000000001001" (refused 9)
+    ∷ under far "1000000000001000" (readsAs (10 ^ 15))
+    ∷ under far "1000000000001001" (refuse 9)
     -- a sum of 10^15, and one more
-    ∷ textA "99999999999999.10" (answer (10 ^ 15))
-    ∷ textA "99999999999999.11" (refused 9)
+    ∷ textA "99999999999999.10" (readsAs (10 ^ 15))
+    ∷ textA "99999999999999.11" (refuse 9)
     -- the sum's 9 comes after every field; 9 before 8 in each field
-    ∷ under later "999999999999999.0" (refused 8)
-    ∷ under later "9999999999999999.0" (refused 9)
+    ∷ under offsetOne "999999999999999.0" (refuse 8)
+    ∷ under offsetOne "9999999999999999.0" (refuse 9)
     -- a missing field adds no ticks whatever its offset; one below its offset is refused
-    ∷ under layoutB "20538:39" (answer 985_855_200)
-    ∷ under layoutB "20538:39:" (answer 985_855_200)
-    ∷ under layoutB "20538:39:0" (refused 8)
-    ∷ under layoutB "20538:39:1" (answer 985_855_200)
-    -- a partition is refused after all that concerns the text
-    ∷ stampA "0/" (refused 6)
-    ∷ stampA "0/x" (refused 5)
-    ∷ stampA "3/9999999999999999" (refused 9)
-    ∷ stampA "0/1" (refused 10)
+    ∷ under layoutB "20538:39" (readsAs 985_855_200)
+    ∷ under layoutB "20538:39:" (readsAs 985_855_200)
+    ∷ under layoutB "20538:39:0" (refuse 8)
+    ∷ under layoutB "20538:39:1" (readsAs 985_855_200)
+    -- a partition is refuse after all that concerns the text
+    ∷ stampA "0/" (refuse 6)
+    ∷ stampA "0/x" (refuse 5)
+    ∷ stampA "3/9999999999999999" (refuse 9)
+    ∷ stampA "0/1" (refuse 10)
     -- the last partition, and one more
-    ∷ stampA "2/20.0" (answer 500)
-    ∷ stampA "3/20.0" (refused 10)
+    ∷ stampA "2/20.0" (readsAs 500)
+    ∷ stampA "3/20.0" (refuse 10)
     -- the front part: digits between blanks
-    ∷ stampA "/5" (refused 5)
-    ∷ stampA " /5" (refused 5)
-    ∷ stampA "1 2/5" (refused 5)
-    ∷ stampA "1.2/5" (refused 5)
-    ∷ stampA "1/2/5" (refused 5)
-    ∷ textA "1/5" (refused 5)
-    ∷ stampA "1/" (refused 6)
-    ∷ stampA " 1 / 5.3" (answer 53)
+    ∷ stampA "/5" (refuse 5)
+    ∷ stampA " /5" (refuse 5)
+    ∷ stampA "1 2/5" (refuse 5)
+    ∷ stampA "1.2/5" (refuse 5)
+    ∷ stampA "1/2/5" (refuse 5)
+    ∷ textA "1/5" (refuse 5)
+    ∷ stampA "1/" (refuse 6)
+    ∷ stampA " 1 / 5.3" (readsAs 53)
     -- an end belongs to its partition, named or not
-    ∷ stampA "50.0" (answer 500)
-    ∷ stampA "50.1" (answer 801)
-    ∷ stampA "1/50.0" (answer 500)
-    ∷ stampA "1/50.1" (refused 11)
-    ∷ stampA "2/90.0" (answer 1_200)
-    ∷ stampA "90.1" (refused 11)
+    ∷ stampA "50.0" (readsAs 500)
+    ∷ stampA "50.1" (readsAs 801)
+    ∷ stampA "1/50.0" (readsAs 500)
+    ∷ stampA "1/50.1" (refuse 11)
+    ∷ stampA "2/90.0" (readsAs 1_200)
+    ∷ stampA "90.1" (refuse 11)
     -- the message: L from 1, at most the length less 2, 96 and 97; 17 before 1 and 2
-    ∷ messageA (7 ∷ 208 ∷ (bytes "1/5.3" ++ (0 ∷ 5 ∷ []))) (answer 53)
-    ∷ messageA (7 ∷ 208 ∷ (bytes "1/5.3" ++ (0 ∷ 8 ∷ []))) (refused 17)
-    ∷ messageA (bytes "1/5.3" ++ (0 ∷ 5 ∷ [])) (answer 53)
-    ∷ messageA (bytes "1/5.3" ++ (0 ∷ 6 ∷ [])) (refused 17)
-    ∷ messageA (bytes "1/5.3" ++ (0 ∷ 0 ∷ [])) (refused 17)
-    ∷ messageA (bytes "1/5.3" ++ (1 ∷ 5 ∷ [])) (refused 17)
-    ∷ messageA (zeros 94 ++ bytes "5.3" ++ (0 ∷ 96 ∷ [])) (answer 53)
-    ∷ messageA (zeros 94 ++ bytes "5.3" ++ (0 ∷ 97 ∷ [])) (refused 17)
-    ∷ messageA [] (refused 17)
-    ∷ messageA (0 ∷ []) (refused 17)
-    ∷ messageA (0 ∷ 0 ∷ []) (refused 17)
-    ∷ messageA (255 ∷ 255 ∷ []) (refused 17)
-    ∷ record { asked = message noLayout noPartitions (0 ∷ 0 ∷ []); expected = refused 17 }
-    ∷ record { asked = message noLayout noPartitions (bytes "5.3" ++ (0 ∷ 3 ∷ [])); expected = refused 1 }
-    ∷ record { asked = message layoutA noPartitions (bytes "5.3" ++ (0 ∷ 3 ∷ [])); expected = refused 2 }
+    ∷ messageA (7 ∷ 208 ∷ (bytes "1/5.3" ++ (0 ∷ 5 ∷ []))) (readsAs 53)
+    ∷ messageA (7 ∷ 208 ∷ (bytes "1/5.3" ++ (0 ∷ 8 ∷ []))) (refuse 17)
+    ∷ messageA (bytes "1/5.3" ++ (0 ∷ 5 ∷ [])) (readsAs 53)
+    ∷ messageA (bytes "1/5.3" ++ (0 ∷ 6 ∷ [])) (refuse 17)
+    ∷ messageA (bytes "1/5.3" ++ (0 ∷ 0 ∷ [])) (refuse 17)
+    ∷ messageA (bytes "1/5.3" ++ (1 ∷ 5 ∷ [])) (refuse 17)
+    ∷ messageA (zeros 94 ++ bytes "5.3" ++ (0 ∷ 96 ∷ [])) (readsAs 53)
+    ∷ messageA (zeros 94 ++ bytes "5.3" ++ (0 ∷ 97 ∷ [])) (refuse 17)
+    ∷ messageA [] (refuse 17)
+    ∷ messageA (0 ∷ []) (refuse 17)
+    ∷ messageA (0 ∷ 0 ∷ []) (refuse 17)
+    ∷ messageA (255 ∷ 255 ∷ []) (refuse 17)
+    ∷ record { asked = message noLayout noPartitions (0 ∷ 0 ∷ []); expected = refuse 17 }
+    ∷ record { asked = message noLayout noPartitions (bytes "5.3" ++ (0 ∷ 3 ∷ [])); expected = refuse 1 }
+    ∷ record { asked = message layoutA noPartitions (bytes "5.3" ++ (0 ∷ 3 ∷ [])); expected = refuse 2 }
     -- 1, then 2, then 4
-    ∷ record { asked = text noLayout (blanks 97); expected = refused 1 }
-    ∷ record { asked = stamp noLayout noPartitions (blanks 97); expected = refused 1 }
-    ∷ record { asked = stamp layoutA noPartitions (blanks 97); expected = refused 2 }
+    ∷ record { asked = text noLayout (blanks 97); expected = refuse 1 }
+    ∷ record { asked = stamp noLayout noPartitions (blanks 97); expected = refuse 1 }
+    ∷ record { asked = stamp layoutA noPartitions (blanks 97); expected = refuse 2 }
     ∷ []
 
 pub readings-hold : map (λ r. answerTo (r .asked)) readings ≡ map (λ r. r .expected) readings
-unfolding allOf allBelow all product firstBelow orElse sumBelow unless andThen layoutOk productOf msfOf partitionsOk partitionOk totalOf lengthsBefore readText fieldsCount fieldsOf between withDigit symbolsFrom symbolsAt digitAfter after afterBlank eachField notAbove notBelow sumOf ticksOf valueOf valueFrom readStamp stampAt slashIn frontOk frontNumber holds encodedIn encodeNamed encodeFound encodeFirst readMessage messageOk textLength textIn bytes layoutA partitionsA layoutB answerTo textA stampA bytesA messageA layout under one three later far noLayout noPartitions nines zeros blanks readings
+unfolding computing bytes layoutA partitionsA layoutB answerTo readsAs textA stampA bytesA messageA layout under one three offsetOne far noLayout noPartitions nines zeros blanks readings
 readings-hold = refl

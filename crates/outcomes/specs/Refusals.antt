@@ -6,6 +6,7 @@ use mathlib.Core.List.{List, [], _∷_}
 use lib.IntN.{ℤ}
 use Rattle.base.specs.Scans.{among}
 use Rattle.rules.specs.declared.Layout.{Layout}
+use Rattle.rules.specs.declared.Refusal.{Refusal}
 use Rattle.rules.specs.Answer.{Answer, refused}
 use Rattle.rules.specs.Partitions.{Partitions}
 use Rattle.rules.specs.Segments.{Segments}
@@ -14,6 +15,7 @@ use Rattle.rules.specs.Stamp.{readStamp}
 use Rattle.rules.specs.Message.{readMessage}
 use Rattle.rules.specs.Print.{printCount, printStamp}
 use Rattle.rules.specs.Time.{timeOf, countAt, stepsBackIn}
+use Rattle.rules.specs.StampTime.{timeOfStamp}
 
 unfoldable pub textRefusals : List ℕ
 textRefusals = 1 ∷ 4 ∷ 5 ∷ 6 ∷ 7 ∷ 8 ∷ 9 ∷ []
@@ -39,12 +41,16 @@ timeOfRefusals = 1 ∷ 2 ∷ 3 ∷ 12 ∷ 13 ∷ []
 unfoldable pub countAtRefusals : List ℕ
 countAtRefusals = 1 ∷ 2 ∷ 3 ∷ 13 ∷ 14 ∷ []
 
+-- never 12: the encoded count of a stamp is at most the total
+unfoldable pub timeOfStampRefusals : List ℕ
+timeOfStampRefusals = 1 ∷ 2 ∷ 4 ∷ 5 ∷ 6 ∷ 7 ∷ 8 ∷ 9 ∷ 10 ∷ 11 ∷ 3 ∷ 13 ∷ []
+
 unfoldable pub stepsBackRefusals : List ℕ
 stepsBackRefusals = 1 ∷ 2 ∷ 3 ∷ []
 
 -- every refusal of a call is one of ks
 abbrev pub OnlyRefuses : {A : Type 0} → List ℕ → Answer A → Type 0
-OnlyRefuses ks a = (k : ℕ) → a ≡ refused k → among k ks ≡ true
+OnlyRefuses ks a = (k : Refusal) → a ≡ refused k → among (k .number) ks ≡ true
 
 pub record Refusals : Type 0 where
   pub text : (l : Layout) (s : List ℕ) → OnlyRefuses textRefusals (readText l s)
@@ -54,4 +60,5 @@ pub record Refusals : Type 0 where
   pub print-stamp : (l : Layout) (p : Partitions) (e room : ℕ) → OnlyRefuses printStampRefusals (printStamp l p e room)
   pub time-of : (l : Layout) (p : Partitions) (g : Segments) (e : ℕ) → OnlyRefuses timeOfRefusals (timeOf l p g e)
   pub count-at : (l : Layout) (p : Partitions) (g : Segments) (t : ℤ) → OnlyRefuses countAtRefusals (countAt l p g t)
+  pub time-of-stamp : (l : Layout) (p : Partitions) (g : Segments) (s : List ℕ) → OnlyRefuses timeOfStampRefusals (timeOfStamp l p g s)
   pub steps-back : (l : Layout) (p : Partitions) (g : Segments) → OnlyRefuses stepsBackRefusals (stepsBackIn l p g)

@@ -5,7 +5,7 @@ use mathlib.Core.List.{List}
 use lib.ListN.{length, take}
 use lib.Seq.{take-append-seam}
 use borrow.Author.Tests.{ltb-true, leb-true}
-use Rattle.rules.specs.Answer.{Answer, answer, refused}
+use Rattle.rules.specs.Answer.{Answer, answer, refused, reading}
 use Rattle.rules.specs.declared.Layout.{Layout}
 use Rattle.rules.specs.Layout.{productOf}
 use Rattle.rules.specs.Partitions.{Partitions, totalOf}
@@ -23,7 +23,7 @@ unfolding lengthPrinted bufferAfter
 front (answer s) buffer n h = let e : n ≡ length s = cc in rw (e, take-append-seam)
 front (refused k) buffer n h = absurd (not-answer h)
 
-count-printed : (l : Layout) (c room : ℕ) (s : List ℕ) → TenSlots l → printCount l c room ≡ answer s → readText l s ≡ answer c
+count-printed : (l : Layout) (c room : ℕ) (s : List ℕ) → TenSlots l → printCount l c room ≡ answer s → readText l s ≡ answer (reading c)
 unfolding printCount fitting
 count-printed l c room s t h =
     let h1 = unless-rest 1 _ _ s h in
@@ -32,7 +32,7 @@ count-printed l c room s t h =
     let e : s ≡ countPrint l c = cc in
     rw e (count-reads-back l t (unless-test 1 _ _ s h) c (ltb-true c (productOf l) (unless-test 9 _ _ s h1)))
 
-stamp-printed : (l : Layout) (p : Partitions) (e room : ℕ) (s : List ℕ) → TenSlots l → printStamp l p e room ≡ answer s → readStamp l p s ≡ answer e
+stamp-printed : (l : Layout) (p : Partitions) (e room : ℕ) (s : List ℕ) → TenSlots l → printStamp l p e room ≡ answer s → readStamp l p s ≡ answer (reading e)
 unfolding printStamp fitting
 stamp-printed l p e room s t h =
     let h1 = unless-rest 1 _ _ s h in

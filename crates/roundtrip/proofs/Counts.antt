@@ -1,22 +1,21 @@
 -- A printed count is read as itself.
 use Prim.Native.Nat.{ℕ, _≤_, _<_}
-use mathlib.Core.Path.{_≡_, refl}
+use mathlib.Core.Path.{_≡_}
 use mathlib.Core.Bool.{true}
 use mathlib.Core.List.{List, [], _∷_}
 use lib.ListN.{length, length-take}
 use borrow.Author.Tests.{le-leb}
 use native.Mathlib.Omega.{arith}
-use Rattle.base.specs.Scans.{all, product}
-use Rattle.rules.specs.Limits.{longestText, largestCount}
-use Rattle.rules.specs.Answer.{answer, unless}
+use Rattle.base.specs.Scans.{product}
+use Rattle.rules.specs.Limits.{mostFields, longestText, largestCount}
+use Rattle.rules.specs.Answer.{answer, unless, reading}
 use Rattle.rules.specs.declared.Layout.{Layout}
 use Rattle.rules.specs.Layout.{moduliOf, offsetsOf, productOf, layoutOk}
-use Rattle.rules.specs.Facts.{LayoutFacts}
 use Rattle.rules.proofs.Accepted.{layout-facts}
-use Rattle.rules.specs.Text.{isAllowed, fieldsOf, fieldsCount, readText}
-use Rattle.rules.specs.Print.{delimiterByte, countPrint}
+use Rattle.rules.specs.Text.{fieldsCount, bytesCount, parseText, readText}
+use Rattle.rules.specs.Print.{fieldsPrint, countPrint}
 use Rattle.roundtrip.specs.RoundTrip.{TenSlots, CountReadsBack, CountPrintsShort, longestCountPrint}
-use Rattle.roundtrip.proofs.Fields.{delimiter-separates, printedFields, fields-printed, fields-allowed}
+use Rattle.roundtrip.proofs.Fields.{Separates, delimiter-separates, fields-printed, fields-allowed}
 use Rattle.roundtrip.proofs.Split.{FieldsFacts, each-printed, sum-printed, length-printed, first-printed}
 use Rattle.roundtrip.proofs.Length.{fields-length}
 
@@ -32,32 +31,25 @@ layout-fields l t ok =
       in-range = f .product;
     }
 
--- what a reader asks of a printed count
-pub record Readable (l : Layout) (c : ℕ) : Type 0 where
-  pub short : length (countPrint l c) ≤ longestCountPrint
-  pub allowed : all isAllowed (countPrint l c) ≡ true
-  pub counted : fieldsCount l (fieldsOf (countPrint l c)) ≡ answer c
+-- what a reader asks of the bytes s that stand for the count c
+pub record Readable (ms os s : List ℕ) (c : ℕ) : Type 0 where
+  pub short : length s ≤ longestCountPrint
+  pub counted : bytesCount ms os s ≡ answer (reading c)
 
--- over the first field and the others
-readable-lists : (l : Layout) (ms os : List ℕ) (c : ℕ) → moduliOf l ≡ ms → offsetsOf l ≡ os → length ms ≡ l .n
-    → LayoutFacts l → FieldsFacts ms os → c < product ms → Readable l c
-unfolding countPrint fieldsCount unless
-readable-lists l [] os c em eo n a f h = absurd (omega (arith, a .fields))
-readable-lists l (m ∷ ms) [] c em eo n a f h = absurd (omega (arith, f .one-length))
-readable-lists l (m ∷ ms) (o ∷ os) c em eo n a f h =
+fields-readable : (d : ℕ) → Separates d → (c : ℕ) (ms os : List ℕ) → 1 ≤ length ms → length ms ≤ mostFields → FieldsFacts ms os → c < product ms
+    → Readable ms os (fieldsPrint d c ms os) c
+unfolding bytesCount fieldsCount unless
+fields-readable d w c [] os some few f h = absurd (omega arith)
+fields-readable d w c (m ∷ ms) [] some few f h = absurd (omega (arith, f .one-length))
+fields-readable d w c (m ∷ ms) (o ∷ os) some few f h =
     let same : length ms ≡ length os = omega (arith, f .one-length) in
-    let d = delimiterByte (l .delimiter) in
-    let w = delimiter-separates (l .delimiter) (a .delimiter-low) (a .delimiter-high) in
-    let fs = printedFields c (m ∷ ms) (o ∷ os) in
     record {
-      short = rw (em, eo) (omega (arith, fields-length d c m ms o os f h, a .few-fields));
-      allowed = rw (em, eo) (fields-allowed d w c m ms o os same);
+      short = omega (arith, fields-length d c m ms o os f h);
       counted =
           rw (
-            em,
-            eo,
+            fields-allowed d w c m ms o os same,
             fields-printed d w c m ms o os same,
-            le-leb (length fs) (l .n) (omega (arith, length-printed c (m ∷ ms) (o ∷ os))),
+            le-leb _ _ (length-printed c (m ∷ ms) (o ∷ os)),
             first-printed c m ms o os,
             each-printed c (m ∷ ms) (o ∷ os) _ f h,
             sum-printed c (m ∷ ms) (o ∷ os) f h,
@@ -65,17 +57,19 @@ readable-lists l (m ∷ ms) (o ∷ os) c em eo n a f h =
           );
     }
 
-pub readable : (l : Layout) (c : ℕ) → TenSlots l → layoutOk l ≡ true → c < productOf l → Readable l c
-unfolding productOf
+pub readable : (l : Layout) (c : ℕ) → TenSlots l → layoutOk l ≡ true → c < productOf l → Readable (moduliOf l) (offsetsOf l) (countPrint l c) c
+unfolding productOf countPrint
 readable l c t ok h =
     let a = layout-facts l ok in
-    readable-lists l (moduliOf l) (offsetsOf l) c refl refl (omega (arith, length-take (l .n) (l .moduli))) a (layout-fields l t ok) h
+    let n : length (moduliOf l) ≡ l .n = omega (arith, length-take (l .n) (l .moduli)) in
+    let w = delimiter-separates (l .delimiter) (a .delimiter-low) (a .delimiter-high) in
+    fields-readable _ w c (moduliOf l) (offsetsOf l) (omega arith) (omega arith) (layout-fields l t ok) h
 
 pub count-prints-short : CountPrintsShort
 count-prints-short l t ok c h = readable l c t ok h .short
 
 pub count-reads-back : CountReadsBack
-unfolding readText unless
+unfolding readText parseText unless
 count-reads-back l t ok c h =
     let r = readable l c t ok h in
-    rw (ok, le-leb (length (countPrint l c)) longestText (omega (arith, r .short)), r .allowed, r .counted)
+    rw (ok, le-leb (length (countPrint l c)) longestText (omega (arith, r .short)), r .counted)

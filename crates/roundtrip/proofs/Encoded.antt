@@ -10,8 +10,6 @@ use native.Mathlib.Omega.{arith}
 use Rattle.base.specs.Scans.{firstBelow}
 use Rattle.base.proofs.Tests.{and-both}
 use Rattle.base.proofs.Scans.{First, first-is, first-none, first-found, first-missing, sum-start, sum-next, sum-up}
-use Rattle.rules.specs.declared.Layout.{Layout}
-use Rattle.rules.specs.Layout.{productOf}
 use Rattle.rules.specs.Partitions.{Partitions, partitionsIn, startOf, endOf, lengthOf, lengthsBefore, totalOf}
 use Rattle.rules.specs.Facts.{PartitionFacts}
 use Rattle.rules.specs.Stamp.{holds, encodedIn}
@@ -92,14 +90,14 @@ module _ (p : Partitions) where
       none-above i b = le-ltb (totalOf p) (lengthsBefore p (i + 1)) (omega (arith, before-total, before-up (i + 1) (partitionsIn p) (omega arith)))
 
 -- what encoding asks of the clock's count for e
-pub record Decoded (l : Layout) (p : Partitions) (e i : ℕ) : Type 0 where
+pub record Decoded (P : ℕ) (p : Partitions) (e i : ℕ) : Type 0 where
   pub held : holds p (decodedIn p e i) i ≡ true
-  pub in-range : decodedIn p e i < productOf l
+  pub in-range : decodedIn p e i < P
   pub encoded : encodedIn p (decodedIn p e i) i ≡ e
 
-pub decoded : (l : Layout) (p : Partitions) (e i : ℕ) → PartitionFacts l p i → Lies p e i → Decoded l p e i
+pub decoded : (P : ℕ) (p : Partitions) (e i : ℕ) → PartitionFacts P p i → Lies p e i → Decoded P p e i
 unfolding holds decodedIn encodedIn
-decoded l p e i f w =
+decoded P p e i f w =
     let next = before-next p i in
     let c = startOf p i + (e - lengthsBefore p i) in
     record {

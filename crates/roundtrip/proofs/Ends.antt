@@ -24,12 +24,12 @@ unfolding encodedIn
 end-encoded p i = omega (arith, before-next p i)
 
 pub inner-end-shared : InnerEndShared
-inner-end-shared l p ok i h = rw (end-encoded, start-encoded)
+inner-end-shared P p ok i h = rw (end-encoded, start-encoded)
 
 pub inner-end-printed : InnerEndPrinted
 unfolding decodedIn
 inner-end-printed l p ok i h =
-    let f = partitions-facts l p ok .each (i + 1) h in
+    let f = partitions-facts _ p ok .each (i + 1) h in
     printed-as l p _ _ _
     (rw end-encoded (partition-is p (lengthsBefore p (i + 1)) (i + 1) h (omega arith) (omega (arith, before-next p (i + 1)))))
     (rw end-encoded (omega arith))
@@ -37,14 +37,14 @@ inner-end-printed l p ok i h =
 pub total-printed : TotalPrinted
 unfolding decodedIn
 total-printed l p ok =
-    let a = partitions-facts l p ok in
+    let a = partitions-facts _ p ok in
     let i = partitionsIn p - 1 in
     let f = a .each i (omega (arith, a .some)) in
     let last : i + 1 ≡ partitionsIn p = omega (arith, a .some) in
     printed-as l p _ _ _ (partition-total p) (omega (arith, before-next p i, before-total p, ap (lengthsBefore p) last))
 
 pub stamp-count-below-p : StampCountBelowP
-stamp-count-below-p l p ok e h =
-    let facts = partitions-facts l p ok in
+stamp-count-below-p P p ok e h =
+    let facts = partitions-facts P p ok in
     let there = lies p e (facts .some) h in
-    decoded l p e (partitionOf p e) (facts .each (partitionOf p e) (there .below)) there .in-range
+    decoded P p e (partitionOf p e) (facts .each (partitionOf p e) (there .below)) there .in-range

@@ -5,15 +5,15 @@ use mathlib.Core.Bool.{true}
 use mathlib.Core.List.{_∷_}
 use lib.ListN.{length, replicate, getD-replicate}
 use native.Mathlib.Omega.{arith}
-use Rattle.base.specs.Scans.{allOf, all, sumBelow, product}
+use Rattle.base.specs.Scans.{sumBelow, product}
 use Rattle.base.proofs.Scans.{sum-same}
 use Rattle.rules.specs.Limits.{largestP, largestOffset}
 use Rattle.rules.specs.declared.Layout.{Layout}
-use Rattle.rules.specs.Layout.{productOf, msfOf, layoutOk}
+use Rattle.rules.specs.Layout.{productOf, layoutOk}
 use Rattle.rules.specs.Partitions.{Partitions, partitions, startOf, endOf, lengthOf, lengthsBefore, totalOf, partitionsOk}
 use Rattle.rules.specs.Facts.{PartitionsFacts}
 use Rattle.rules.proofs.Accepted.{partitions-accepted}
-use Rattle.rules.specs.Print.{digitsUpTo, digitCount, lastDigits, padded, fieldWidth, fieldPrint, delimiterByte, fieldsPrint, countPrint}
+use Rattle.rules.specs.Computing.{computing, print-rules}
 use Rattle.roundtrip.specs.RoundTrip.{TenSlots, LongestCountPrinted, LongestStampPrinted}
 use Rattle.roundtrip.proofs.Ends.{total-printed}
 
@@ -25,11 +25,11 @@ unfolding widest
 widest-slots = record { moduli = refl; offsets = refl }
 
 widest-ok : layoutOk widest ≡ true
-unfolding widest layoutOk allOf all productOf msfOf product
+unfolding computing widest
 widest-ok = refl
 
 pub longest-count-printed : LongestCountPrinted
-unfolding widest productOf product countPrint fieldsPrint fieldPrint fieldWidth padded lastDigits digitCount digitsUpTo delimiterByte
+unfolding computing widest
 longest-count-printed = (widest, largestP - 1, widest-slots, widest-ok, omega arith, refl)
 
 many : Partitions
@@ -50,7 +50,7 @@ thousand = refl
 many-total : sumBelow (lengthOf many) 1_000 ≡ 1_000
 many-total = sum-same (lengthOf many) (λ i. 1) 1_000 (λ i b. omega (arith, many-starts i b, many-ends i b)) ∙ thousand
 
-many-facts : PartitionsFacts widest many
+many-facts : PartitionsFacts (productOf widest) many
 unfolding widest many productOf product totalOf lengthsBefore
 many-facts =
     record {
@@ -61,9 +61,9 @@ many-facts =
       total = rw many-total (omega arith);
     }
 
-many-ok : partitionsOk widest many ≡ true
-many-ok = partitions-accepted widest many many-facts
+many-ok : partitionsOk (productOf widest) many ≡ true
+many-ok = partitions-accepted (productOf widest) many many-facts
 
 pub longest-stamp-printed : LongestStampPrinted
-unfolding widest many countPrint fieldsPrint fieldPrint fieldWidth padded lastDigits digitCount digitsUpTo delimiterByte product
+unfolding print-rules product widest many
 longest-stamp-printed = (widest, many, widest-slots, widest-ok, many-ok, ap length (total-printed widest many many-ok .print))

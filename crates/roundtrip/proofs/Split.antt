@@ -10,6 +10,7 @@ use native.Mathlib.Nat.{add-sub-cancel, mod-lt, div-add-mod', div-lt-iff-lt-mul,
 use native.Mathlib.Omega.{arith}
 use Rattle.base.specs.Scans.{all, product}
 use Rattle.rules.specs.Limits.{largestOffset, largestP, largestField}
+use Rattle.rules.specs.declared.Reading.{Reading}
 use Rattle.rules.specs.Answer.{Answer, unless}
 use Rattle.rules.specs.Text.{isPresent, firstPresent, ticksOf, sumOf, notAbove, notBelow, eachField}
 use Rattle.rules.specs.Print.{fieldPrint}
@@ -72,7 +73,7 @@ ticks-printed : (v o : ℕ) (s : List ℕ) (unit : ℕ) → Prints (v + o) s →
 unfolding ticksOf
 ticks-printed v o s unit p = rw (present (v + o) s p, p .value, add-sub-cancel)
 
-pub each-printed : (c : ℕ) (ms os : List ℕ) (a : Answer ℕ) → FieldsFacts ms os → c < product ms → eachField (printedFields c ms os) os a ≡ a
+pub each-printed : (c : ℕ) (ms os : List ℕ) (a : Answer Reading) → FieldsFacts ms os → c < product ms → eachField (printedFields c ms os) os a ≡ a
 unfolding printedFields eachField unless
 each-printed c [] os a f h = refl
 each-printed c (m ∷ ms) [] a f h = refl

@@ -14,15 +14,15 @@ use Rattle.base.specs.Scans.{all}
 use Rattle.base.proofs.Tests.{by-test, and-both, and-first}
 use Rattle.base.proofs.Scans.{first-is}
 use Rattle.rules.specs.Limits.{mostPartitions, longestText}
-use Rattle.rules.specs.Answer.{answer, unless, andThen}
+use Rattle.rules.specs.Answer.{answer, unless, andThen, reading}
 use Rattle.rules.specs.declared.Layout.{Layout}
-use Rattle.rules.specs.Layout.{layoutOk}
+use Rattle.rules.specs.Layout.{layoutOk, moduliOf, offsetsOf, productOf}
 use Rattle.rules.specs.Partitions.{Partitions, partitionsIn, partitionsOk, totalOf}
 use Rattle.rules.specs.Facts.{PartitionsFacts}
 use Rattle.rules.proofs.Accepted.{partitions-facts}
-use Rattle.rules.specs.Text.{isDigit, isAllowed, fieldsOf, fieldsCount}
-use Rattle.rules.specs.Stamp.{slashIn, frontOk, frontNumber, holds, encodedIn, encodeNamed, stampAt, readStamp}
-use Rattle.rules.specs.Print.{digitCount, padded, partitionOf, decodedIn, stampPrint}
+use Rattle.rules.specs.Text.{isDigit, bytesCount}
+use Rattle.rules.specs.Stamp.{slashIn, frontOk, frontNumber, holds, encodedIn, encodeNamed, named, parsedAt, parseStamp, encode, readStamp}
+use Rattle.rules.specs.Print.{digitCount, padded, partitionOf, decodedIn, countPrint, stampPrint}
 use Rattle.roundtrip.specs.RoundTrip.{TenSlots, StampReadsBack, StampPrintsShort, longestStampPrint}
 use Rattle.base.proofs.Lists.{all-getD}
 use Rattle.roundtrip.proofs.Digits.{Prints, padded-prints, padded-length, digits-needed}
@@ -55,15 +55,15 @@ front-number : (x : ℕ) (f : List ℕ) → Prints x f → frontNumber f ≡ x
 unfolding frontNumber
 front-number x f p = rw (one-field x f p) (p .value)
 
-stamp-read : (l : Layout) (p : Partitions) (x : ℕ) (f s : List ℕ) → Prints x f → all isAllowed s ≡ true
-    → stampAt l p (f ++ (47 ∷ s)) (slashIn (f ++ (47 ∷ s))) ≡ andThen (fieldsCount l (fieldsOf s)) (encodeNamed p x)
-unfolding stampAt unless
-stamp-read l p x f s w a =
-    rw (slash-after f s (w .digits), take-append-seam f (47 ∷ s), drop-append-add f (47 ∷ s) 1, front-ok x f w, a, front-number x f w)
+stamp-parsed : (ms os : List ℕ) (x : ℕ) (f s : List ℕ) → Prints x f
+    → parsedAt ms os (f ++ (47 ∷ s)) (slashIn (f ++ (47 ∷ s))) ≡ andThen (bytesCount ms os s) (λ r. answer (named x r))
+unfolding parsedAt unless
+stamp-parsed ms os x f s w =
+    rw (slash-after f s (w .digits), take-append-seam f (47 ∷ s), drop-append-add f (47 ∷ s) 1, front-ok x f w, front-number x f w)
 
-named : (p : Partitions) (i c : ℕ) → i < partitionsIn p → holds p c i ≡ true → encodeNamed p (i + 1) c ≡ answer (encodedIn p c i)
+encode-named : (p : Partitions) (i c : ℕ) → i < partitionsIn p → holds p c i ≡ true → encodeNamed p (i + 1) c ≡ answer (encodedIn p c i)
 unfolding encodeNamed unless
-named p i c b h =
+encode-named p i c b h =
     let e : i + 1 - 1 ≡ i = omega arith in
     rw (and-both (le-leb 1 (i + 1) (omega arith)) (le-leb (i + 1) (partitionsIn p) (omega arith)), e, h)
 
@@ -73,9 +73,9 @@ few-digits x n h =
     (λ t. leb-true (digitCount x) 4 t)
     (λ f. absurd (omega (arith, digits-needed x n, pow-le-pow-right {n = 10} (omega arith) (leb-false (digitCount x) 4 f))))
 
-module _ (l : Layout) (p : Partitions) (t : TenSlots l) (ok : layoutOk l ≡ true) (good : partitionsOk l p ≡ true) (e : ℕ) (h : e ≤ totalOf p) where
-  abbrev facts : PartitionsFacts l p
-  facts = partitions-facts l p good
+module _ (l : Layout) (p : Partitions) (t : TenSlots l) (ok : layoutOk l ≡ true) (good : partitionsOk (productOf l) p ≡ true) (e : ℕ) (h : e ≤ totalOf p) where
+  abbrev facts : PartitionsFacts (productOf l) p
+  facts = partitions-facts (productOf l) p good
 
   abbrev place : ℕ
   place = partitionOf p e
@@ -83,10 +83,10 @@ module _ (l : Layout) (p : Partitions) (t : TenSlots l) (ok : layoutOk l ≡ tru
   abbrev there : Lies p e place
   there = lies p e (facts .some) h
 
-  abbrev count : Decoded l p e place
-  count = decoded l p e place (facts .each place (there .below)) there
+  abbrev count : Decoded (productOf l) p e place
+  count = decoded (productOf l) p e place (facts .each place (there .below)) there
 
-  abbrev text : Readable l (decodedIn p e place)
+  abbrev text : Readable (moduliOf l) (offsetsOf l) (countPrint l (decodedIn p e place)) (decodedIn p e place)
   text = readable l (decodedIn p e place) t ok (count .in-range)
 
   pub stamp-short : length (stampPrint l p e) ≤ longestStampPrint
@@ -95,16 +95,16 @@ module _ (l : Layout) (p : Partitions) (t : TenSlots l) (ok : layoutOk l ≡ tru
       let number = few-digits (place + 1) (omega arith) (omega (arith, there .below, facts .few)) in
       rw (length-append, padded-length) (omega (arith, text .short, number))
 
-  pub stamp-back : readStamp l p (stampPrint l p e) ≡ answer e
-  unfolding readStamp stampPrint unless andThen
+  pub stamp-back : readStamp l p (stampPrint l p e) ≡ answer (reading e)
+  unfolding readStamp parseStamp encode stampPrint unless andThen
   stamp-back =
       rw (
         ok,
         good,
         le-leb (length (stampPrint l p e)) longestText (omega (arith, stamp-short)),
-        stamp-read l p (place + 1) (padded 1 (place + 1)) _ (padded-prints 1 (place + 1)) (text .allowed),
+        stamp-parsed _ _ (place + 1) (padded 1 (place + 1)) _ (padded-prints 1 (place + 1)),
         text .counted,
-        named p place _ (there .below) (count .held),
+        encode-named p place _ (there .below) (count .held),
         count .encoded,
       )
 

@@ -12,23 +12,23 @@ use Rattle.base.specs.Scans.{all}
 use Rattle.base.proofs.Tests.{not-both, and-both, and-first, and-second}
 use Rattle.base.proofs.Scans.{First, first-is, first-none, first-or}
 use Rattle.rules.specs.Limits.{longestText}
-use Rattle.rules.specs.Answer.{answer, refused, unless, andThen}
+use Rattle.rules.specs.Answer.{answer, refuse, unless, andThen, reading}
 use Rattle.rules.specs.declared.Layout.{Layout}
-use Rattle.rules.specs.Layout.{layoutOk}
+use Rattle.rules.specs.Layout.{layoutOk, moduliOf, offsetsOf, productOf}
 use Rattle.rules.specs.Partitions.{Partitions, partitionsIn, startOf, endOf, partitionsOk}
-use Rattle.rules.specs.Text.{isAllowed, fieldsOf, fieldsCount, readText}
-use Rattle.rules.specs.Stamp.{slashIn, holds, encodedIn, encodeFound, encodeFirst, stampAt, readStamp}
+use Rattle.rules.specs.Text.{isAllowed, bytesCount, parseText, readText}
+use Rattle.rules.specs.Stamp.{slashIn, holds, encodedIn, encodeFound, encodeFirst, unnamed, parsedAt, parseStamp, encode, readStamp}
 use Rattle.roundtrip.specs.Unnamed.{Holds, FirstToHold, NoneHolds, UnnamedStamp, UnnamedRefused}
 use Rattle.base.proofs.Lists.{all-getD}
 use Rattle.rules.proofs.Answers.{not-answer, unless-test, unless-rest}
 
 module _ (p : Partitions) (c : ℕ) where
-  pub encode-first : (i : ℕ) → First (holds p c) (partitionsIn p) i → encodeFirst p c ≡ answer (encodedIn p c i)
-  unfolding encodeFirst encodeFound
+  pub encode-first : (i : ℕ) → First (holds p c) (partitionsIn p) i → encode p (unnamed (reading c)) ≡ answer (reading (encodedIn p c i))
+  unfolding encode encodeFirst encodeFound andThen
   encode-first i f = rw (first-is (holds p c) (partitionsIn p) i f)
 
-  pub encode-none : ((i : ℕ) → i < partitionsIn p → holds p c i ≡ false) → encodeFirst p c ≡ refused 11
-  unfolding encodeFirst encodeFound
+  pub encode-none : ((i : ℕ) → i < partitionsIn p → holds p c i ≡ false) → encode p (unnamed (reading c)) ≡ refuse 11
+  unfolding encode encodeFirst encodeFound andThen
   encode-none f = rw (first-none (holds p c) (partitionsIn p) f)
 
   pub holds-fact : (i : ℕ) → i < partitionsIn p → holds p c i ≡ true → Holds p c i
@@ -43,7 +43,9 @@ module _ (p : Partitions) (c : ℕ) where
   holds-test i w = and-both (le-leb _ _ (w .from)) (le-leb _ _ (w .to))
 
   -- encoding without a partition answers by the first that holds the count, or is refused where none does
-  pub encode-or : ((i : ℕ) × FirstToHold p c i × (encodeFirst p c ≡ answer (encodedIn p c i))) ⊎ (NoneHolds p c × (encodeFirst p c ≡ refused 11))
+  pub encode-or :
+      ((i : ℕ) × FirstToHold p c i × (encode p (unnamed (reading c)) ≡ answer (reading (encodedIn p c i))))
+      ⊎ (NoneHolds p c × (encode p (unnamed (reading c)) ≡ refuse 11))
   encode-or =
       ⊎-elim
       (λ w. inl (w .0, record { it = holds-fact (w .0) (w .1 .below) (w .1 .holds); earlier = λ j l k. not-both (holds-test j k) (w .1 .before j l) }, encode-first (w .0) (w .1)))
@@ -59,21 +61,22 @@ record Passes (l : Layout) (s : List ℕ) (c : ℕ) : Type 0 where
   layout : layoutOk l ≡ true
   short : leb (length s) longestText ≡ true
   allowed : all isAllowed s ≡ true
-  counted : fieldsCount l (fieldsOf s) ≡ answer c
+  counted : bytesCount (moduliOf l) (offsetsOf l) s ≡ answer (reading c)
 
-passes : (l : Layout) (s : List ℕ) (c : ℕ) → readText l s ≡ answer c → Passes l s c
-unfolding readText
+passes : (l : Layout) (s : List ℕ) (c : ℕ) → readText l s ≡ answer (reading c) → Passes l s c
+unfolding readText parseText bytesCount
 passes l s c h =
-    let h1 = unless-rest 1 _ _ c h in
-    let h2 = unless-rest 4 _ _ c h1 in
-    record { layout = unless-test 1 _ _ c h; short = unless-test 4 _ _ c h1; allowed = unless-test 5 _ _ c h2; counted = unless-rest 5 _ _ c h2 }
+    let h1 = unless-rest 1 _ _ _ h in
+    let h2 = unless-rest 4 _ _ _ h1 in
+    record { layout = unless-test 1 _ _ _ h; short = unless-test 4 _ _ _ h1; allowed = unless-test 5 _ _ _ h2; counted = h2 }
 
 -- a text that has a count, read as a stamp
-pub text-as-stamp : (l : Layout) (p : Partitions) (s : List ℕ) (c : ℕ) → partitionsOk l p ≡ true → readText l s ≡ answer c → readStamp l p s ≡ encodeFirst p c
-unfolding readStamp stampAt unless andThen
+pub text-as-stamp : (l : Layout) (p : Partitions) (s : List ℕ) (c : ℕ) → partitionsOk (productOf l) p ≡ true → readText l s ≡ answer (reading c)
+    → readStamp l p s ≡ encode p (unnamed (reading c))
+unfolding readStamp parseStamp parsedAt unless andThen
 text-as-stamp l p s c ok h =
     let w = passes l s c h in
-    rw (w .layout, ok, w .short, no-slash s (w .allowed), w .allowed, w .counted)
+    rw (w .layout, ok, w .short, no-slash s (w .allowed), w .counted)
 
 pub unnamed-stamp : UnnamedStamp
 unfolding encodedIn

@@ -18,18 +18,19 @@ pub record PrintedAs (l : Layout) (p : Partitions) (e i c : ℕ) : Type 0 where
 -- "an inner end and the next start share one encoded count"
 abbrev pub InnerEndShared : Type 0
 InnerEndShared =
-    (l : Layout) (p : Partitions) → partitionsOk l p ≡ true → (i : ℕ) → i + 1 < partitionsIn p → encodedIn p (endOf p i) i ≡ encodedIn p (startOf p (i + 1)) (i + 1)
+    (P : ℕ) (p : Partitions) → partitionsOk P p ≡ true → (i : ℕ) → i + 1 < partitionsIn p → encodedIn p (endOf p i) i ≡ encodedIn p (startOf p (i + 1)) (i + 1)
 
 -- "printed as the start"
 abbrev pub InnerEndPrinted : Type 0
 InnerEndPrinted =
-    (l : Layout) (p : Partitions) → partitionsOk l p ≡ true → (i : ℕ) → i + 1 < partitionsIn p
+    (l : Layout) (p : Partitions) → partitionsOk (productOf l) p ≡ true → (i : ℕ) → i + 1 < partitionsIn p
     → PrintedAs l p (encodedIn p (endOf p i) i) (i + 1) (startOf p (i + 1))
 
 -- the total is printed as the last partition's end
 abbrev pub TotalPrinted : Type 0
-TotalPrinted = (l : Layout) (p : Partitions) → partitionsOk l p ≡ true → PrintedAs l p (totalOf p) (partitionsIn p - 1) (endOf p (partitionsIn p - 1))
+TotalPrinted =
+    (l : Layout) (p : Partitions) → partitionsOk (productOf l) p ≡ true → PrintedAs l p (totalOf p) (partitionsIn p - 1) (endOf p (partitionsIn p - 1))
 
 -- so that printing a stamp is never refused 9
 abbrev pub StampCountBelowP : Type 0
-StampCountBelowP = (l : Layout) (p : Partitions) → partitionsOk l p ≡ true → (e : ℕ) → e ≤ totalOf p → decodedIn p e (partitionOf p e) < productOf l
+StampCountBelowP = (P : ℕ) (p : Partitions) → partitionsOk P p ≡ true → (e : ℕ) → e ≤ totalOf p → decodedIn p e (partitionOf p e) < P

@@ -10,27 +10,27 @@ use lib.Seq.{take-append-seam}
 use borrow.Author.Tests.{leb-true, le-leb}
 use Rattle.base.specs.Scans.{among}
 use Rattle.base.proofs.Tests.{by-test}
-use Rattle.rules.specs.Answer.{Answer, answer, refused, unless, andThen}
-use Rattle.rules.specs.Layout.{layoutOk}
+use Rattle.rules.specs.Answer.{Answer, answer, refused, numbered, unless, andThen}
+use Rattle.rules.specs.Layout.{layoutOk, productOf}
 use Rattle.rules.specs.Partitions.{partitionsOk, endOf, totalOf}
-use Rattle.rules.specs.Stamp.{readStamp, slashIn}
+use Rattle.rules.specs.Stamp.{readStamp}
 use Rattle.rules.specs.Print.{fitting, stampPrint, printStamp, lengthPrinted, bufferAfter}
 use Rattle.rules.specs.Time.{accepted, timeOf, countAt}
-use Rattle.versions.specs.Versions.{Table, Accepted, lastIn, Hypothesis, Says, Agree, stampRefusals, countRefusals, timeRefusals}
-use Rattle.versions.specs.Versions.{readBy, printBy, timeBy, countBy, Printed, shown, printed, Exception, Apart, olderPrint, newerPrint, NeverMisleads}
-use Rattle.versions.proofs.Agreement.{agree-same, agree-refused, agree-unless}
-use Rattle.versions.proofs.Layouts.{OneLayout}
+use Rattle.versions.specs.Versions.{Table, Accepted, lastIn, Hypothesis, Says, Agree, olderRefusesStamp, olderRefusesCount, olderRefusesTime}
+use Rattle.versions.specs.Versions.{readBy, printBy, timeBy, countBy, PrintedAnswer, shown, printed, Exception, Apart, olderPrint, newerPrint, NeverMisleads}
+use Rattle.versions.proofs.Agreement.{agree-same, agree-refused, agree-then}
+use Rattle.versions.proofs.Layouts.{OneLayout, unit-same}
 use Rattle.versions.proofs.Partitions.{KeptPartitions, total-up}
 use Rattle.versions.proofs.Kept.{one-layout, kept-partitions, kept-segments, unit}
 use Rattle.versions.proofs.CountToTime.{time-agrees}
 use Rattle.versions.proofs.TimeToCount.{count-agrees}
-use Rattle.versions.proofs.Reading.{stamp-agrees}
+use Rattle.versions.proofs.Reading.{encode-agrees}
 use Rattle.versions.proofs.Printing.{stamp-same, older-last, newer-next, older-end, newer-start}
 use Rattle.versions.proofs.Numbers.{numbers-differ}
 
 -- an accepted table passes the checks
 module _ (t : Table) (ok : Accepted t) where
-  through-two : {A : Type 0} (a : Answer A) → unless 1 (layoutOk (t .layout)) (unless 2 (partitionsOk (t .layout) (t .partitions)) a) ≡ a
+  through-two : {A : Type 0} (a : Answer A) → unless 1 (layoutOk (t .layout)) (unless 2 (partitionsOk (productOf (t .layout)) (t .partitions)) a) ≡ a
   unfolding unless
   through-two a = rw (ok .layout, ok .partitions)
 
@@ -43,7 +43,7 @@ module _ (t : Table) (ok : Accepted t) where
   print-is e room = through-two (unless 12 (leb e (totalOf (t .partitions))) (fitting room (stampPrint (t .layout) (t .partitions) e)))
 
 -- what is shown is the print, whatever the buffer held
-only-print : Answer (List ℕ) → Answer Printed
+only-print : Answer (List ℕ) → Answer PrintedAnswer
 only-print r = andThen r (λ s. answer (record { returned = length s; bytes = s }))
 
 shown-print : (r : Answer (List ℕ)) (b : List ℕ) → shown r b ≡ only-print r
@@ -58,23 +58,23 @@ module _ (older newer : Table) (was : Accepted older) (is : Accepted newer) (say
   rows : KeptPartitions (older .partitions) (newer .partitions)
   rows = kept-partitions older newer was is says
 
-  reads : (s : List ℕ) → Agree stampRefusals (readBy older s) (readBy newer s)
+  reads : (s : List ℕ) → Agree olderRefusesStamp (readBy older s) (readBy newer s)
   unfolding readStamp
   reads s =
-      rw (through-two older was, through-two newer is)
-      (agree-unless 4 _ (stamp-agrees _ _ _ _ one rows s (slashIn s)))
+      rw (through-two older was, through-two newer is, one .moduli, one .offsets)
+      (agree-then _ _ (agree-same refl) (encode-agrees _ _ rows))
 
-  times-agree : (e : ℕ) → Agree countRefusals (timeBy older e) (timeBy newer e)
+  times-agree : (e : ℕ) → Agree olderRefusesCount (timeBy older e) (timeBy newer e)
   unfolding timeOf
   times-agree e =
-      rw (through-three older was, through-three newer is)
-      (time-agrees _ _ _ _ _ _ one rows (kept-segments older newer was is says) e)
+      rw (through-three older was, through-three newer is, ← unit-same _ _ one)
+      (time-agrees _ _ _ (total-up _ _ rows) _ _ (kept-segments older newer was is says) e)
 
-  counts-agree : (t : ℤ) → Agree timeRefusals (countBy older t) (countBy newer t)
+  counts-agree : (t : ℤ) → Agree olderRefusesTime (countBy older t) (countBy newer t)
   unfolding countAt
   counts-agree t =
-      rw (through-three older was, through-three newer is)
-      (agree-unless 14 _ (count-agrees _ _ _ _ _ _ one rows (kept-segments older newer was is says) (unit older newer was is says) t))
+      rw (through-three older was, through-three newer is, ← unit-same _ _ one)
+      (count-agrees _ _ _ (unit older newer was is says) (total-up _ _ rows) _ _ (kept-segments older newer was is says) t)
 
   print-same : (e room : ℕ) → e ≤ totalOf (older .partitions) → (Exception older newer e → ⊥) → printBy newer e room ≡ printBy older e room
   unfolding unless
@@ -82,12 +82,12 @@ module _ (older newer : Table) (was : Accepted older) (is : Accepted newer) (say
       rw (print-is older was, print-is newer is, le-leb e (totalOf (older .partitions)) b, le-leb e (totalOf (newer .partitions)) (omega (arith, total-up _ _ rows)))
       (ap (fitting room) (stamp-same _ _ _ _ one rows e b (λ t d m. outside (omega arith))))
 
-  prints-agree : (e : ℕ) (b c : List ℕ) → length b ≡ length c → (Exception older newer e → ⊥) → Agree countRefusals (printed older e b) (printed newer e c)
+  prints-agree : (e : ℕ) (b c : List ℕ) → length b ≡ length c → (Exception older newer e → ⊥) → Agree olderRefusesCount (printed older e b) (printed newer e c)
   unfolding only-print among unless andThen
   prints-agree e b c same outside =
       by-test (leb e (totalOf (older .partitions)))
       (λ y. agree-same (rw (shown-print _ b, shown-print _ c, same, print-same e (length c) (leb-true _ _ y) outside)))
-      (λ n. agree-refused 12 (rw (shown-print _ b, print-is older was, n)) refl)
+      (λ n. agree-refused (numbered 12) (rw (shown-print _ b, print-is older was, n)) refl)
 
   module _ (e : ℕ) (x : Exception older newer e) where
     total : e ≡ totalOf (older .partitions)

@@ -7,12 +7,12 @@ use mathlib.Core.Bool.{false}
 use lib.IntN.{pos}
 use lib.ListN.{length, take, length-take}
 use lib.Seq.{getD-take}
-use lib.Signed.{ltZ}
 use borrow.Author.Tests.{ltb-true, lt-ltb}
 use Rattle.base.proofs.Scans.{some-none}
 use Rattle.rules.specs.Facts.{LayoutFacts, PartitionsFacts, SegmentsFacts}
 use Rattle.rules.specs.Partitions.{partitionsIn, endOf, totalOf}
-use Rattle.rules.specs.Segments.{segmentsIn, rowOf, unitOf, lineAt, stepsBackAt, stepsBack}
+use Rattle.rules.specs.Layout.{productOf, unitOf}
+use Rattle.rules.specs.Segments.{segmentsIn, rowOf, overtakes, stepsBackAt, stepsBack}
 use Rattle.rules.proofs.Accepted.{layout-facts, partitions-facts, segments-facts}
 use Rattle.versions.specs.Versions.{Table, Accepted, lastIn, Hypothesis, Says}
 use Rattle.versions.specs.Versions.{same-n, same-moduli, same-offsets, same-delimiter, kept-starts, kept-ends, last-end, kept-counts, kept-times, kept-rates, further-counts, no-step-back}
@@ -25,22 +25,21 @@ module _ (older newer : Table) (was : Accepted older) (is : Accepted newer) (say
   new-layout : LayoutFacts (newer .layout)
   new-layout = layout-facts (newer .layout) (is .layout)
 
-  old-partitions : PartitionsFacts (older .layout) (older .partitions)
-  old-partitions = partitions-facts (older .layout) (older .partitions) (was .partitions)
+  old-partitions : PartitionsFacts (productOf (older .layout)) (older .partitions)
+  old-partitions = partitions-facts _ _ (was .partitions)
 
-  new-partitions : PartitionsFacts (newer .layout) (newer .partitions)
-  new-partitions = partitions-facts (newer .layout) (newer .partitions) (is .partitions)
+  new-partitions : PartitionsFacts (productOf (newer .layout)) (newer .partitions)
+  new-partitions = partitions-facts _ _ (is .partitions)
 
-  old-segments : SegmentsFacts (older .layout) (older .partitions) (older .segments)
-  old-segments = segments-facts (older .layout) (older .partitions) (older .segments) (was .segments)
+  old-segments : SegmentsFacts (unitOf (older .layout)) (totalOf (older .partitions)) (older .segments)
+  old-segments = segments-facts _ _ _ (was .segments)
 
-  new-segments : SegmentsFacts (newer .layout) (newer .partitions) (newer .segments)
-  new-segments = segments-facts (newer .layout) (newer .partitions) (newer .segments) (is .segments)
+  new-segments : SegmentsFacts (unitOf (newer .layout)) (totalOf (newer .partitions)) (newer .segments)
+  new-segments = segments-facts _ _ _ (is .segments)
 
   pub one-layout : OneLayout (older .layout) (newer .layout)
   one-layout =
       record {
-        fields = says same-n;
         moduli = rw (says same-n) (says same-moduli);
         offsets = rw (says same-n) (says same-offsets);
         delimiter = says same-delimiter;
@@ -70,21 +69,26 @@ module _ (older newer : Table) (was : Accepted older) (is : Accepted newer) (say
   further : (i : ℕ) → segmentsIn (older .segments) ≤ i → i < segmentsIn (newer .segments) → totalOf (older .partitions) < rowOf (newer .segments) i .count
   further i b c = let above = all-after _ (newer .segments .counts) _ i (says further-counts) b c in omega (arith, ltb-true)
 
-  forward : (i : ℕ) → i + 1 < segmentsIn (newer .segments)
-      → ltZ (rowOf (newer .segments) (i + 1) .time) (lineAt (newer .layout) (newer .segments) i (rowOf (newer .segments) (i + 1) .count)) ≡ false
+  forward : (i : ℕ) → i + 1 < segmentsIn (newer .segments) → overtakes (unitOf (newer .layout)) (rowOf (newer .segments) i) (rowOf (newer .segments) (i + 1)) ≡ false
   unfolding stepsBack stepsBackAt
   forward i b =
       rw (lt-ltb (i + 1) (segmentsIn (newer .segments)) b)
-      at (some-none (stepsBackAt (newer .layout) (newer .segments)) (segmentsIn (newer .segments)) i (says no-step-back) (omega arith))
+      at (some-none (stepsBackAt (unitOf (newer .layout)) (newer .segments)) (segmentsIn (newer .segments)) i (says no-step-back) (omega arith))
 
-  pub kept-segments : KeptSegments (newer .layout) (older .partitions) (older .segments) (newer .segments)
+  row-same : (i : ℕ) → i < segmentsIn (older .segments) → rowOf (newer .segments) i ≡ rowOf (older .segments) i
+  row-same i b =
+      rw (
+        begins-at (older .segments .counts) (newer .segments .counts) i 0 (says kept-counts) b,
+        begins-at (older .segments .times) (newer .segments .times) i (pos 0) (says kept-times) (rw (old-segments .times-length) b),
+        begins-at (older .segments .rates) (newer .segments .rates) i 0 (says kept-rates) (rw (old-segments .rates-length) b),
+      )
+
+  pub kept-segments : KeptSegments (unitOf (newer .layout)) (totalOf (older .partitions)) (older .segments) (newer .segments)
   kept-segments =
       record {
         some = old-segments .some;
         more = begins-longer (older .segments .counts) (newer .segments .counts) (says kept-counts);
-        counts = λ i b. begins-at (older .segments .counts) (newer .segments .counts) i 0 (says kept-counts) b;
-        times = λ i b. begins-at (older .segments .times) (newer .segments .times) i (pos 0) (says kept-times) (rw (old-segments .times-length) b);
-        rates = λ i b. begins-at (older .segments .rates) (newer .segments .rates) i 0 (says kept-rates) (rw (old-segments .rates-length) b);
+        rows = row-same;
         further = further;
         grow = λ i b. new-segments .grow i b .times;
         positive = λ i b. le-trans unit (new-segments .each i b .rate-low);

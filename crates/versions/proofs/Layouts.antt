@@ -1,20 +1,16 @@
--- One layout: the two tables read fields, print counts and tell the unit alike.
+-- One layout: the two tables print counts and tell the unit alike.
 use Prim.Native.Nat.{ℕ, _≤_}
 use native.Mathlib.Omega.{arith}
 use mathlib.Core.Path.{_≡_}
-use mathlib.Core.List.{List}
 use lib.ListN.{drop}
 use Rattle.base.proofs.Lists.{all-drop-one, product-pos}
 use Rattle.rules.specs.declared.Layout.{Layout}
-use Rattle.rules.specs.Layout.{moduliOf, offsetsOf, msfOf}
-use Rattle.rules.specs.Segments.{unitOf}
-use Rattle.rules.specs.Text.{Field, fieldsCount}
+use Rattle.rules.specs.Layout.{moduliOf, offsetsOf, msfOf, unitOf}
 use Rattle.rules.specs.Print.{countPrint}
 use Rattle.rules.specs.Facts.{LayoutFacts}
 
 -- the part of a layout that is looked at
 pub record OneLayout (l k : Layout) : Type 0 where
-  pub fields : k .n ≡ l .n
   pub moduli : moduliOf k ≡ moduliOf l
   pub offsets : offsetsOf k ≡ offsetsOf l
   pub delimiter : k .delimiter ≡ l .delimiter
@@ -23,10 +19,6 @@ module _ (l k : Layout) (one : OneLayout l k) where
   pub unit-same : unitOf k ≡ unitOf l
   unfolding unitOf msfOf
   unit-same = rw (one .moduli)
-
-  pub fields-same : (fs : List Field) → fieldsCount k fs ≡ fieldsCount l fs
-  unfolding fieldsCount
-  fields-same fs = rw (one .moduli, one .offsets, one .fields)
 
   pub print-same : (c : ℕ) → countPrint k c ≡ countPrint l c
   unfolding countPrint

@@ -3,7 +3,7 @@
 --     Layouts, Partitions, Segments               what one layout, kept partitions and kept segments give, row by row
 --     CountToTime, TimeToCount, Reading, Printing, Numbers     the four calls after their checks
 --     Kept, Demand3                               from the hypotheses to the rows, and the theorem
---     Meets, Computing, Needed, Witness           tables that are written out: nothing asked is idle, nor is the theorem empty
+--     Meets, WrittenOut, Needed, Witness           tables that are written out: nothing asked is idle, nor is the theorem empty
 pub mod Agreement
 pub mod Lists
 pub mod Signed
@@ -18,6 +18,6 @@ pub mod Numbers
 pub mod Kept
 pub mod Demand3
 pub mod Meets
-pub mod Computing
+pub mod WrittenOut
 pub mod Needed
 pub mod Witness

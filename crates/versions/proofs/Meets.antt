@@ -9,7 +9,7 @@ use lib.ListN.{length, take, drop, getD}
 use borrow.Author.Tests.{eqb-true, leb-true, not-true}
 use Rattle.base.specs.Scans.{all, allOf}
 use Rattle.base.proofs.Tests.{and-first, and-second, not-both, all-of-head, all-of-tail}
-use Rattle.rules.specs.Layout.{moduliOf, offsetsOf, layoutOk}
+use Rattle.rules.specs.Layout.{moduliOf, offsetsOf, productOf, unitOf, layoutOk}
 use Rattle.rules.specs.Partitions.{endOf, totalOf, partitionsOk}
 use Rattle.rules.specs.Segments.{segmentsIn, stepsBack, segmentsOk}
 use Rattle.versions.specs.Versions.{Table, Accepted, lastIn, Hypothesis, Says, Demand3}
@@ -61,7 +61,7 @@ module _ (older newer : Table) where
   meets kept-times = begins eqZ (older .segments .times) (newer .segments .times)
   meets kept-rates = begins eqb (older .segments .rates) (newer .segments .rates)
   meets further-counts = all (λ c. ltb (totalOf (older .partitions)) c) (drop (segmentsIn (older .segments)) (newer .segments .counts))
-  meets no-step-back = not (stepsBack (newer .layout) (newer .segments))
+  meets no-step-back = not (stepsBack (unitOf (newer .layout)) (newer .segments))
 
   pub meets-says : (h : Hypothesis) → meets h ≡ true → Says older newer h
   unfolding meets
@@ -82,8 +82,8 @@ unfoldable pub passes : Table → Bool
 passes t =
     allOf
     (layoutOk (t .layout)
-    ∷ partitionsOk (t .layout) (t .partitions)
-    ∷ segmentsOk (t .layout) (t .partitions) (t .segments)
+    ∷ partitionsOk (productOf (t .layout)) (t .partitions)
+    ∷ segmentsOk (unitOf (t .layout)) (totalOf (t .partitions)) (t .segments)
     ∷ [])
 
 -- a test of a list that all hold

@@ -4,7 +4,7 @@ use mathlib.Core.Path.{_≡_, refl, sym, ap, _∙_}
 use mathlib.Core.Bool.{Bool, true, false, not, _&&_, _||_}
 use mathlib.Core.List.{List, [], _∷_}
 use lib.Dec.{eqb, ltb}
-use lib.IntN.{pos, negsuc}
+use lib.IntN.{natAbs}
 use lib.ListN.{replicate, getD}
 use borrow.Author.Tests.{eq-eqb, eqb-true, lt-ltb, not-true}
 use Rattle.base.specs.Scans.{allOf}
@@ -13,8 +13,8 @@ use Rattle.rules.specs.Answer.{Answer, answer, refused}
 use Rattle.rules.specs.Partitions.{partitionsIn, totalOf}
 use Rattle.versions.specs.Versions.{Table, Hypothesis, Accepted, Says, Agree, Exception, Demand3}
 use Rattle.versions.specs.Versions.{same-n, same-moduli, same-offsets, same-delimiter, kept-starts, kept-ends, last-end, kept-counts, kept-times, kept-rates, further-counts, no-step-back}
-use Rattle.versions.specs.Needed.{Question, stamp, print, time, count, Reply, counted, shown, timed, ask, Row, pair, Needed}
-use Rattle.versions.proofs.Computing.{computing}
+use Rattle.versions.specs.Needed.{TableQuestion, stamp, print, time, count, TableReply, read, print-out, timed, counted, ask, Row, pair, Needed}
+use Rattle.versions.proofs.WrittenOut.{written-out}
 use Rattle.versions.proofs.Demand3.{demand-3}
 use Rattle.versions.proofs.Meets.{hypotheses, index, at-index, meets, meets-says, passes, passes-accepted, each, each-at, all-of-at}
 
@@ -23,24 +23,26 @@ byteCode : List ℕ → ℕ
 byteCode [] = 0
 byteCode (b ∷ s) = b + 256 * byteCode s
 
-code : Reply → ℕ
-code (counted (answer n)) = n
-code (counted (refused k)) = k
-code (shown (answer p)) = byteCode (p .bytes)
-code (shown (refused k)) = k
-code (timed (answer (pos n))) = n
-code (timed (answer (negsuc n))) = n
-code (timed (refused k)) = k
+code : TableReply → ℕ
+code (read (answer r)) = r .count
+code (print-out (answer p)) = byteCode (p .bytes)
+code (timed (answer t)) = natAbs (t .time)
+code (counted (answer c)) = c .count
+code (read (refused k)) = k .number
+code (print-out (refused k)) = k .number
+code (timed (refused k)) = k .number
+code (counted (refused k)) = k .number
 
 isAnswer : {A : Type 0} → Answer A → Bool
 isAnswer (answer a) = true
 isAnswer (refused k) = false
 
-answered : Reply → Bool
+answered : TableReply → Bool
 unfolding isAnswer
-answered (counted a) = isAnswer a
-answered (shown a) = isAnswer a
+answered (read a) = isAnswer a
+answered (print-out a) = isAnswer a
 answered (timed a) = isAnswer a
+answered (counted a) = isAnswer a
 
 -- where the older answers, the newer replies the same
 same-answer : {A : Type 0} {ks : List ℕ} (a b : Answer A) → Agree ks a b → isAnswer a ≡ true → b ≡ a
@@ -50,7 +52,7 @@ same-answer (refused k) b h t = absurd (not-both t refl)
 
 -- a question that is not the exception
 module _ (older newer : Table) where
-  outside : Question → Bool
+  outside : TableQuestion → Bool
   outside (stamp s) = true
   outside (print e) = not (eqb e (totalOf (older .partitions)) && ltb (partitionsIn (older .partitions)) (partitionsIn (newer .partitions)))
   outside (time e) = true
@@ -60,10 +62,10 @@ module _ (older newer : Table) where
   unfolding outside
   not-exception e t x = not-both (and-both (eq-eqb _ _ (x .total)) (lt-ltb _ _ (x .added))) (not-true _ t)
 
-  same-reply : Demand3 older newer → (q : Question) → outside q ≡ true → answered (ask older q) ≡ true → ask newer q ≡ ask older q
+  same-reply : Demand3 older newer → (q : TableQuestion) → outside q ≡ true → answered (ask older q) ≡ true → ask newer q ≡ ask older q
   unfolding ask answered
-  same-reply d (stamp s) o t = ap counted (same-answer _ _ (d .reading _) t)
-  same-reply d (print e) o t = ap shown (same-answer _ _ (d .printing e (replicate 96 0) (replicate 96 0) refl (not-exception e o)) t)
+  same-reply d (stamp s) o t = ap read (same-answer _ _ (d .reading _) t)
+  same-reply d (print e) o t = ap print-out (same-answer _ _ (d .printing e (replicate 96 0) (replicate 96 0) refl (not-exception e o)) t)
   same-reply d (time e) o t = ap timed (same-answer _ _ (d .time-of e) t)
   same-reply d (count at) o t = ap counted (same-answer _ _ (d .count-at at) t)
 
@@ -98,7 +100,7 @@ Computed h r =
     (allOf (tests h r) ≡ true) × (ask (r .older) (r .asked) ≡ r .older-says) × (ask (r .newer) (r .asked) ≡ r .newer-says)
 
 computed : (h : Hypothesis) → Computed h (pair h)
-unfolding computing tests isSame outside answered isAnswer code byteCode
+unfolding written-out tests isSame outside answered isAnswer code byteCode
 computed same-n = (refl, refl, refl)
 computed same-moduli = (refl, refl, refl)
 computed same-offsets = (refl, refl, refl)

@@ -3,21 +3,17 @@ use Prim.Native.Nat.{ℕ, _+_, _-_, _≤_, _<_}
 use native.Mathlib.Omega.{arith}
 use mathlib.Core.Path.{_≡_, refl, _∙_}
 use mathlib.Core.Bool.{true, false, _&&_}
-use mathlib.Core.List.{List}
-use mathlib.Core.Option.{Option, none, some}
 use mathlib.Core.Logic.{⊎-elim}
 use lib.Dec.{leb}
 use borrow.Author.Tests.{leb-true, le-leb}
 use Rattle.base.specs.Scans.{among}
 use Rattle.base.proofs.Tests.{by-test, and-both, and-first, and-second}
 use Rattle.base.proofs.Scans.{First, first-or, first-is, first-none}
-use Rattle.rules.specs.declared.Layout.{Layout}
-use Rattle.rules.specs.Answer.{refused, unless}
+use Rattle.rules.specs.Answer.{refuse, numbered, unless}
 use Rattle.rules.specs.Partitions.{Partitions, partitionsIn, startOf, endOf}
-use Rattle.rules.specs.Stamp.{holds, encodedIn, encodeNamed, encodeFound, encodeFirst, stampAt}
-use Rattle.versions.specs.Versions.{Agree, stampRefusals}
-use Rattle.versions.proofs.Agreement.{agree-same, agree-refused, agree-unless, agree-then}
-use Rattle.versions.proofs.Layouts.{OneLayout, fields-same}
+use Rattle.rules.specs.Stamp.{holds, encodedIn, encodeNamed, encodeFound, encodeFirst, Parsed, named, unnamed, encode}
+use Rattle.versions.specs.Versions.{Agree, olderRefusesStamp}
+use Rattle.versions.proofs.Agreement.{agree-same, agree-refused, agree-then}
 use Rattle.versions.proofs.Partitions.{KeptPartitions, end-up, before-same}
 
 module _ (p q : Partitions) (kept : KeptPartitions p q) (c : ℕ) where
@@ -44,17 +40,17 @@ module _ (p q : Partitions) (kept : KeptPartitions p q) (c : ℕ) where
       let b : n - 1 < partitionsIn p = omega arith in
       rw (y, z, le-leb 1 n low, le-leb n (partitionsIn q) (omega arith), holds-up (n - 1) b z, encoded-same (n - 1) b)
 
-  pub named-agrees : (n : ℕ) → Agree stampRefusals (encodeNamed p n c) (encodeNamed q n c)
+  named-agrees : (n : ℕ) → Agree olderRefusesStamp (encodeNamed p n c) (encodeNamed q n c)
   unfolding among
   named-agrees n =
       by-test (leb 1 n && leb n (partitionsIn p))
-      (λ y. by-test (holds p c (n - 1)) (λ z. agree-same (named-same n y z)) (λ f. agree-refused 11 (outside y f) refl))
-      (λ f. agree-refused 10 (unknown f) refl)
+      (λ y. by-test (holds p c (n - 1)) (λ z. agree-same (named-same n y z)) (λ f. agree-refused (numbered 11) (outside y f) refl))
+      (λ f. agree-refused (numbered 10) (unknown f) refl)
     where
-      outside : (leb 1 n && leb n (partitionsIn p)) ≡ true → holds p c (n - 1) ≡ false → encodeNamed p n c ≡ refused 11
+      outside : (leb 1 n && leb n (partitionsIn p)) ≡ true → holds p c (n - 1) ≡ false → encodeNamed p n c ≡ refuse 11
       outside y f = unfold encodeNamed unless in rw (y, f)
 
-      unknown : (leb 1 n && leb n (partitionsIn p)) ≡ false → encodeNamed p n c ≡ refused 10
+      unknown : (leb 1 n && leb n (partitionsIn p)) ≡ false → encodeNamed p n c ≡ refuse 10
       unknown f = unfold encodeNamed unless in rw f
 
   first-kept : (i : ℕ) → First (holds p c) (partitionsIn p) i → First (holds q c) (partitionsIn q) i
@@ -66,17 +62,17 @@ module _ (p q : Partitions) (kept : KeptPartitions p q) (c : ℕ) where
         before = λ j d. holds-same j (omega arith) ∙ w .before j d;
       }
 
-  pub first-agrees : Agree stampRefusals (encodeFirst p c) (encodeFirst q c)
+  first-agrees : Agree olderRefusesStamp (encodeFirst p c) (encodeFirst q c)
   unfolding encodeFirst encodeFound among
   first-agrees =
       ⊎-elim
       (λ w. let found = first-is (holds q c) (partitionsIn q) (w .0) (first-kept (w .0) (w .1)) in
       agree-same (rw (first-is (holds p c) (partitionsIn p) (w .0) (w .1), found, encoded-same (w .0) (w .1 .below))))
-      (λ f. agree-refused 11 (rw (first-none (holds p c) (partitionsIn p) f)) refl)
+      (λ f. agree-refused (numbered 11) (rw (first-none (holds p c) (partitionsIn p) f)) refl)
       (first-or (holds p c) (partitionsIn p))
 
-module _ (l k : Layout) (p q : Partitions) (one : OneLayout l k) (kept : KeptPartitions p q) (s : List ℕ) where
-  pub stamp-agrees : (x : Option ℕ) → Agree stampRefusals (stampAt l p s x) (stampAt k q s x)
-  unfolding stampAt
-  stamp-agrees none = agree-unless 5 _ (rw (fields-same l k one) (agree-then _ (first-agrees p q kept)))
-  stamp-agrees (some i) = agree-unless 5 _ (rw (fields-same l k one) (agree-then _ (λ c. named-agrees p q kept c _)))
+module _ (p q : Partitions) (kept : KeptPartitions p q) where
+  pub encode-agrees : (x : Parsed) → Agree olderRefusesStamp (encode p x) (encode q x)
+  unfolding encode
+  encode-agrees (named n r) = agree-then _ _ (named-agrees p q kept (r .count) n) (λ e. agree-same refl)
+  encode-agrees (unnamed r) = agree-then _ _ (first-agrees p q kept (r .count)) (λ e. agree-same refl)

@@ -3,14 +3,14 @@ use Prim.Native.Nat.{ℕ}
 use native.Mathlib.Omega.{arith}
 use mathlib.Core.Path.{_≡_, refl, ap}
 use Rattle.base.proofs.Tests.{not-both}
-use Rattle.rules.specs.Answer.{Answer, answer, refused}
-use Rattle.versions.specs.Versions.{Printed, Demand3}
+use Rattle.rules.specs.Answer.{Answer, answer, refused, numbered}
+use Rattle.versions.specs.Versions.{PrintedAnswer, Demand3}
 use Rattle.versions.specs.Needed.{nine, fourteen, ExceptionNeeded, cutA, tableA, Witness}
 use Rattle.versions.proofs.Meets.{passes-accepted, meets-all, demand-3-by-tests}
-use Rattle.versions.proofs.Computing.{computing}
+use Rattle.versions.proofs.WrittenOut.{written-out}
 
 pub witness : Witness
-unfolding computing
+unfolding written-out
 witness =
     record {
       accepted-older = passes-accepted cutA refl;
@@ -22,15 +22,15 @@ witness =
     }
 
 pub demand-3-of-A : Demand3 cutA tableA
-unfolding computing
+unfolding written-out
 demand-3-of-A = demand-3-by-tests cutA tableA refl refl refl
 
-returnedBy : Answer Printed → ℕ
+returnedBy : Answer PrintedAnswer → ℕ
 returnedBy (answer p) = p .returned
 returnedBy (refused k) = 0
 
 pub exception-needed : ExceptionNeeded
-unfolding computing returnedBy
+unfolding written-out returnedBy
 exception-needed =
     record {
       accepted-older = passes-accepted nine refl;
@@ -41,5 +41,5 @@ exception-needed =
       not-the-same = λ h. let e : _≡_ {A = ℕ} 3 4 = ap returnedBy (h .same _ refl) in omega arith;
       older-into-three = refl;
       newer-into-three = refl;
-      not-refused-12 = λ h. not-both (h .refuses _ 16 refl refl) refl;
+      not-refused-12 = λ h. not-both (h .refuses _ (numbered 16) refl refl) refl;
     }

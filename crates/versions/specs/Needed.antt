@@ -7,11 +7,14 @@ use mathlib.Core.List.{List, [], _∷_}
 use lib.IntN.{ℤ, pos}
 use lib.ListN.{length, take, replicate}
 use Rattle.rules.specs.declared.Layout.{Layout}
-use Rattle.rules.specs.Answer.{Answer, answer, refused}
+use Rattle.rules.specs.declared.Reading.{Reading}
+use Rattle.rules.specs.declared.TimeOfCount.{TimeOfCount}
+use Rattle.rules.specs.declared.CountAtTime.{CountAtTime}
+use Rattle.rules.specs.Answer.{Answer, answer, refuse, reading, timeOfCount, countAtTime}
 use Rattle.rules.specs.Partitions.{Partitions, partitions}
 use Rattle.rules.specs.Segments.{Segments, segments}
 use Rattle.rules.specs.Examples.{bytes, layoutA, partitionsA, segmentsA}
-use Rattle.versions.specs.Versions.{Table, Accepted, Hypothesis, Says, readBy, Printed, printed, timeBy, countBy, Agree, countRefusals, Exception, Demand3}
+use Rattle.versions.specs.Versions.{Table, Accepted, Hypothesis, Says, readBy, PrintedAnswer, printed, timeBy, countBy, Agree, olderRefusesCount, Exception, Demand3}
 use Rattle.versions.specs.Versions.{same-n, same-moduli, same-offsets, same-delimiter, kept-starts, kept-ends, last-end, kept-counts, kept-times, kept-rates, further-counts, no-step-back}
 
 -- a clock of n fields: the moduli of the first two, the offset of the first, the delimiter
@@ -40,45 +43,49 @@ over starts ends = table (smallest .layout) (partitions starts ends) (smallest .
 abbrev pub along : List ℕ → List ℤ → List ℕ → Table
 along counts times rates = table (smallest .layout) (smallest .partitions) (segments counts times rates)
 
-pub data Question : Type 0 where
-  stamp : String → Question
-  print : ℕ → Question
-  time : ℕ → Question
-  count : ℤ → Question
+pub data TableQuestion : Type 0 where
+  stamp : String → TableQuestion
+  print : ℕ → TableQuestion
+  time : ℕ → TableQuestion
+  count : ℤ → TableQuestion
 
-pub data Reply : Type 0 where
-  counted : Answer ℕ → Reply
-  shown : Answer Printed → Reply
-  timed : Answer ℤ → Reply
+pub data TableReply : Type 0 where
+  read : Answer Reading → TableReply
+  print-out : Answer PrintedAnswer → TableReply
+  timed : Answer TimeOfCount → TableReply
+  counted : Answer CountAtTime → TableReply
 
 -- printing goes to 96 bytes of 0
-unfoldable pub ask : Table → Question → Reply
-ask t (stamp s) = counted (readBy t (bytes s))
-ask t (print e) = shown (printed t e (replicate 96 0))
+unfoldable pub ask : Table → TableQuestion → TableReply
+ask t (stamp s) = read (readBy t (bytes s))
+ask t (print e) = print-out (printed t e (replicate 96 0))
 ask t (time e) = timed (timeBy t e)
 ask t (count at) = counted (countBy t at)
 
-abbrev pub countIs : ℕ → Reply
-countIs n = counted (answer n)
+abbrev pub readIs : ℕ → TableReply
+readIs n = read (answer (reading n))
 
-abbrev pub timeIs : ℕ → Reply
-timeIs n = timed (answer (pos n))
+abbrev pub countIs : ℕ → TableReply
+countIs n = counted (answer (countAtTime n))
+
+abbrev pub timeIs : ℕ → TableReply
+timeIs n = timed (answer (timeOfCount (pos n)))
 
 -- the answer of a print
-abbrev pub prints : String → Answer Printed
+abbrev pub prints : String → Answer PrintedAnswer
 prints s = answer (record { returned = length (bytes s); bytes = bytes s })
 
-abbrev pub printIs : String → Reply
-printIs s = shown (prints s)
+abbrev pub printIs : String → TableReply
+printIs s = print-out (prints s)
 
 pub record Row : Type 0 where
   pub older : Table
   pub newer : Table
-  pub asked : Question
-  pub older-says : Reply
-  pub newer-says : Reply
+  pub asked : TableQuestion
+  pub older-says : TableReply
+  pub newer-says : TableReply
 
-abbrev pub row : Table → Table → Question → Reply → Reply → Row
+abbrev pub row : Table → Table → TableQuestion → TableReply → TableReply → Row
 row o n q r s = record { older = o; newer = n; asked = q; older-says = r; newer-says = s }
 
 unfoldable pub pair : Hypothesis → Row
@@ -88,9 +95,9 @@ pair same-moduli = row (under (clock 1 3 1 0 1)) (under (clock 1 11 1 0 1)) (pri
 pair same-offsets = row (under (clock 1 3 1 0 1)) (under (clock 1 3 1 1 1)) (print 1) (printIs "1/1") (printIs "1/2")
 pair same-delimiter = row (under (clock 2 3 1 0 1)) (under (clock 2 3 1 0 2)) (print 1) (printIs "1/1.0") (printIs "1/1:0")
 -- a changed start, a changed inner end, a smaller last end
-pair kept-starts = row (over (0 ∷ []) (2 ∷ [])) (over (1 ∷ []) (2 ∷ [])) (stamp "1/2") (countIs 2) (countIs 1)
+pair kept-starts = row (over (0 ∷ []) (2 ∷ [])) (over (1 ∷ []) (2 ∷ [])) (stamp "1/2") (readIs 2) (readIs 1)
 pair kept-ends = row (over (0 ∷ 0 ∷ []) (1 ∷ 1 ∷ [])) (over (0 ∷ 0 ∷ []) (2 ∷ 1 ∷ [])) (print 1) (printIs "2/0") (printIs "1/1")
-pair last-end = row (over (0 ∷ []) (2 ∷ [])) (over (0 ∷ []) (1 ∷ [])) (print 2) (printIs "1/2") (shown (refused 12))
+pair last-end = row (over (0 ∷ []) (2 ∷ [])) (over (0 ∷ []) (1 ∷ [])) (print 2) (printIs "1/2") (print-out (refuse 12))
 -- a segment with another count, time, rate
 pair kept-counts = row smallest (along (1 ∷ []) (pos 0 ∷ []) (1_000 ∷ [])) (time 1) (timeIs 1) (timeIs 0)
 pair kept-times = row smallest (along (0 ∷ []) (pos 1 ∷ []) (1_000 ∷ [])) (time 1) (timeIs 1) (timeIs 2)
@@ -124,10 +131,10 @@ abbrev pub fourteen : Table
 fourteen = table (clock 1 10 1 1 1) (partitions (0 ∷ 0 ∷ []) (9 ∷ 5 ∷ [])) (smallest .segments)
 
 -- the two tables print 9 into so many bytes
-abbrev pub byNine : ℕ → Answer Printed
+abbrev pub byNine : ℕ → Answer PrintedAnswer
 byNine room = printed nine 9 (replicate room 0)
 
-abbrev pub byFourteen : ℕ → Answer Printed
+abbrev pub byFourteen : ℕ → Answer PrintedAnswer
 byFourteen room = printed fourteen 9 (replicate room 0)
 
 -- The exception is needed for both halves of the claim: the two tables meet every hypothesis, and do not agree on 9.
@@ -137,10 +144,10 @@ pub record ExceptionNeeded : Type 0 where
   pub says : (h : Hypothesis) → Says nine fourteen h
   pub older-into-four : byNine 4 ≡ prints "1/10"
   pub newer-into-four : byFourteen 4 ≡ prints "2/1"
-  pub not-the-same : Agree countRefusals (byNine 4) (byFourteen 4) → ⊥
-  pub older-into-three : byNine 3 ≡ refused 16
+  pub not-the-same : Agree olderRefusesCount (byNine 4) (byFourteen 4) → ⊥
+  pub older-into-three : byNine 3 ≡ refuse 16
   pub newer-into-three : byFourteen 3 ≡ prints "2/1"
-  pub not-refused-12 : Agree countRefusals (byNine 3) (byFourteen 3) → ⊥
+  pub not-refused-12 : Agree olderRefusesCount (byNine 3) (byFourteen 3) → ⊥
 
 abbrev pub tableA : Table
 tableA = table layoutA partitionsA segmentsA

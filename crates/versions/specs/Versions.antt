@@ -9,8 +9,12 @@ use lib.IntN.{ℤ}
 use lib.ListN.{length, take, drop}
 use Rattle.base.specs.Scans.{all, among}
 use Rattle.rules.specs.declared.Layout.{Layout}
-use Rattle.rules.specs.Answer.{Answer, answer, refused, Refusal, andThen}
-use Rattle.rules.specs.Layout.{layoutOk, moduliOf, offsetsOf}
+use Rattle.rules.specs.declared.Refusal.{Refusal}
+use Rattle.rules.specs.declared.Reading.{Reading}
+use Rattle.rules.specs.declared.TimeOfCount.{TimeOfCount}
+use Rattle.rules.specs.declared.CountAtTime.{CountAtTime}
+use Rattle.rules.specs.Answer.{Answer, answer, refused, andThen}
+use Rattle.rules.specs.Layout.{layoutOk, moduliOf, offsetsOf, productOf, unitOf}
 use Rattle.rules.specs.Partitions.{Partitions, partitionsIn, startOf, endOf, totalOf, partitionsOk}
 use Rattle.rules.specs.Segments.{Segments, segmentsIn, segmentsOk, stepsBack}
 use Rattle.rules.specs.Stamp.{readStamp}
@@ -26,8 +30,8 @@ pub record Table : Type 0 where
 -- "accepted where none of 1, 2 and 3 applies"
 pub record Accepted (t : Table) : Type 0 where
   pub layout : layoutOk (t .layout) ≡ true
-  pub partitions : partitionsOk (t .layout) (t .partitions) ≡ true
-  pub segments : segmentsOk (t .layout) (t .partitions) (t .segments) ≡ true
+  pub partitions : partitionsOk (productOf (t .layout)) (t .partitions) ≡ true
+  pub segments : segmentsOk (unitOf (t .layout)) (totalOf (t .partitions)) (t .segments) ≡ true
 
 -- the newer list begins with the older, every number equal
 abbrev pub Begins : {A : Type 0} → List A → List A → Type 0
@@ -63,60 +67,60 @@ module _ (older newer : Table) where
   Says further-counts =
       all (λ c. ltb (totalOf (older .partitions)) c) (drop (segmentsIn (older .segments)) (newer .segments .counts)) ≡ true
   -- "It nowhere steps back."
-  Says no-step-back = stepsBack (newer .layout) (newer .segments) ≡ false
+  Says no-step-back = stepsBack (unitOf (newer .layout)) (newer .segments) ≡ false
 
 -- "Where the older answers, the newer gives the same answer. Where only the newer answers, the older refuses" with one of these numbers.
 pub record Agree {A : Type 0} (numbers : List ℕ) (older newer : Answer A) : Type 0 where
   pub same : (a : A) → older ≡ answer a → newer ≡ answer a
-  pub refuses : (a : A) (k : Refusal) → newer ≡ answer a → older ≡ refused k → among k numbers ≡ true
+  pub refuses : (a : A) (k : Refusal) → newer ≡ answer a → older ≡ refused k → among (k .number) numbers ≡ true
 
 -- "the older refuses: a stamp with 10 or 11, a count to print or to turn into time with 12, a time with 14"
-abbrev pub stampRefusals : List ℕ
-stampRefusals = 10 ∷ 11 ∷ []
+abbrev pub olderRefusesStamp : List ℕ
+olderRefusesStamp = 10 ∷ 11 ∷ []
 
-abbrev pub countRefusals : List ℕ
-countRefusals = 12 ∷ []
+abbrev pub olderRefusesCount : List ℕ
+olderRefusesCount = 12 ∷ []
 
-abbrev pub timeRefusals : List ℕ
-timeRefusals = 14 ∷ []
+abbrev pub olderRefusesTime : List ℕ
+olderRefusesTime = 14 ∷ []
 
 -- The four calls under a table.
-abbrev pub readBy : Table → List ℕ → Answer ℕ
+abbrev pub readBy : Table → List ℕ → Answer Reading
 readBy t s = readStamp (t .layout) (t .partitions) s
 
 abbrev pub printBy : Table → ℕ → ℕ → Answer (List ℕ)
 printBy t e room = printStamp (t .layout) (t .partitions) e room
 
-abbrev pub timeBy : Table → ℕ → Answer ℤ
+abbrev pub timeBy : Table → ℕ → Answer TimeOfCount
 timeBy t e = timeOf (t .layout) (t .partitions) (t .segments) e
 
-abbrev pub countBy : Table → ℤ → Answer ℕ
+abbrev pub countBy : Table → ℤ → Answer CountAtTime
 countBy t time = countAt (t .layout) (t .partitions) (t .segments) time
 
 -- "An answer is all that a call returns .., and for printing the bytes printed as well"
-pub record Printed : Type 0 where
+pub record PrintedAnswer : Type 0 where
   pub returned : ℕ
   pub bytes : List ℕ
 
 -- the length that a print returns, and as many bytes from the front of its buffer afterwards
-unfoldable pub shown : Answer (List ℕ) → List ℕ → Answer Printed
+unfoldable pub shown : Answer (List ℕ) → List ℕ → Answer PrintedAnswer
 shown r buffer = andThen (lengthPrinted r) (λ n. answer (record { returned = n; bytes = take n (bufferAfter r buffer) }))
 
 -- printing e into a lent buffer
-abbrev pub printed : Table → ℕ → List ℕ → Answer Printed
+abbrev pub printed : Table → ℕ → List ℕ → Answer PrintedAnswer
 printed t e buffer = shown (printBy t e (length buffer)) buffer
 
 -- the stamp of the clock's count c in partition i, numbered from 1
-abbrev pub stampOf : Table → ℕ → ℕ → List ℕ
-stampOf t i c = padded 1 (i + 1) ++ (47 ∷ countPrint (t .layout) c)
+abbrev pub stampText : Table → ℕ → ℕ → List ℕ
+stampText t i c = padded 1 (i + 1) ++ (47 ∷ countPrint (t .layout) c)
 
 -- "the older prints the end of its last partition"
 abbrev pub olderPrint : Table → List ℕ
-olderPrint older = stampOf older (lastIn older) (endOf (older .partitions) (lastIn older))
+olderPrint older = stampText older (lastIn older) (endOf (older .partitions) (lastIn older))
 
 -- "the newer the start of the one after it"
 abbrev pub newerPrint : Table → Table → List ℕ
-newerPrint older newer = stampOf newer (lastIn older + 1) (startOf (newer .partitions) (lastIn older + 1))
+newerPrint older newer = stampText newer (lastIn older + 1) (startOf (newer .partitions) (lastIn older + 1))
 
 module _ (older newer : Table) where
   -- "printing the older's total, where the older's last partition kept its end and a partition was added"
@@ -133,12 +137,12 @@ module _ (older newer : Table) where
 
   -- "Then ask both the same, in any of those four directions, whatever the stamp, count or time."
   pub record Demand3 : Type 0 where
-    pub reading : (s : List ℕ) → Agree stampRefusals (readBy older s) (readBy newer s)
+    pub reading : (s : List ℕ) → Agree olderRefusesStamp (readBy older s) (readBy newer s)
     -- "for printing two buffers of one length, whatever they hold"
-    pub printing : (e : ℕ) (b c : List ℕ) → length b ≡ length c → (Exception e → ⊥) → Agree countRefusals (printed older e b) (printed newer e c)
+    pub printing : (e : ℕ) (b c : List ℕ) → length b ≡ length c → (Exception e → ⊥) → Agree olderRefusesCount (printed older e b) (printed newer e c)
     pub exception : (e : ℕ) → Exception e → Apart e
-    pub time-of : (e : ℕ) → Agree countRefusals (timeBy older e) (timeBy newer e)
-    pub count-at : (t : ℤ) → Agree timeRefusals (countBy older t) (countBy newer t)
+    pub time-of : (e : ℕ) → Agree olderRefusesCount (timeBy older e) (timeBy newer e)
+    pub count-at : (t : ℤ) → Agree olderRefusesTime (countBy older t) (countBy newer t)
 
 -- "Take any two accepted tables with one layout, an older and a newer." The whole demand.
 abbrev pub NeverMisleads : Type 0
