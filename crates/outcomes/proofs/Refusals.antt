@@ -141,7 +141,7 @@ message-only l p m =
 -- the encoded count of a stamp is at most the total, so that no 12 comes
 time-within : (ks : List ℕ) → among 13 ks ≡ true → (unit total : ℕ) (g : Segments) (e : ℕ) → leb e total ≡ true → OnlyRefuses ks (timeIn unit total g e)
 unfolding timeIn unless
-time-within ks h unit total g e b = rw b (time-only ks h unit g e (segmentOf g e))
+time-within ks h unit total g e b = rw b (time-only ks h unit g e (segmentOf (g .counts) e))
 
 stamp-time-only : (l : Layout) (p : Partitions) (g : Segments) (s : List ℕ) → OnlyRefuses timeOfStampRefusals (timeOfStamp l p g s)
 unfolding timeOfStamp withTime timeOf timeOfStampRefusals among
@@ -159,8 +159,8 @@ only-those =
       message = message-only;
       print-count = λ l c room. rung printCountRefusals 1 _ _ refl (rung printCountRefusals 9 _ _ refl (fitting-only printCountRefusals refl room _));
       print-stamp = λ l p e room. rung printStampRefusals 1 _ _ refl (rung printStampRefusals 2 _ _ refl (rung printStampRefusals 12 _ _ refl (fitting-only printStampRefusals refl room _)));
-      time-of = λ l p g e. accepted-only timeOfRefusals refl refl refl l p g _ (rung timeOfRefusals 12 _ _ refl (time-only timeOfRefusals refl _ g e (segmentOf g e)));
-      count-at = λ l p g t. accepted-only countAtRefusals refl refl refl l p g _ (rung countAtRefusals 14 _ _ refl (count-only _ _ g t (segmentAt g t)));
+      time-of = λ l p g e. accepted-only timeOfRefusals refl refl refl l p g _ (rung timeOfRefusals 12 _ _ refl (time-only timeOfRefusals refl _ g e (segmentOf (g .counts) e)));
+      count-at = λ l p g t. accepted-only countAtRefusals refl refl refl l p g _ (rung countAtRefusals 14 _ _ refl (count-only _ _ g t (segmentAt (g .times) t)));
       time-of-stamp = stamp-time-only;
       steps-back = λ l p g. accepted-only stepsBackRefusals refl refl refl l p g _ (answers stepsBackRefusals _);
     }

@@ -18,14 +18,14 @@ use Rattle.versions.proofs.Segments.{KeptSegments, count-same}
 
 -- total is the older's, grown the newer's
 module _ (unit total grown : ℕ) (up : total ≤ grown) (g h : Segments) (kept : KeptSegments unit total g h) (e : ℕ) where
-  segment-same : e ≤ total → segmentOf h e ≡ segmentOf g e
+  segment-same : e ≤ total → segmentOf (h .counts) e ≡ segmentOf (g .counts) e
   unfolding segmentOf
   segment-same b =
       last-more (λ i. leb (rowOf g i .count) e) (λ i. leb (rowOf h i .count) e) (segmentsIn g) (segmentsIn h) (kept .more)
       (λ i c. rw (count-same unit total g h kept i c))
       (λ i c d. lt-leb (rowOf h i .count) e (omega (arith, kept .further i c d)))
 
-  line-same : (x : Option ℕ) → segmentOf g e ≡ x → timeOn unit h e x ≡ timeOn unit g e x
+  line-same : (x : Option ℕ) → segmentOf (g .counts) e ≡ x → timeOn unit h e x ≡ timeOn unit g e x
   unfolding timeOn segmentOf
   line-same none s = refl
   line-same (some i) s = ap (λ r. answer (timeOfCount (lineAt unit r e))) (kept .rows i (last-found (λ i. leb (rowOf g i .count) e) (segmentsIn g) i s .below))
@@ -35,5 +35,5 @@ module _ (unit total grown : ℕ) (up : total ≤ grown) (g h : Segments) (kept 
   time-agrees =
       by-test (leb e total)
       (λ t. let b : e ≤ total = leb-true _ _ t in
-      agree-same (rw (t, le-leb e grown (omega arith), segment-same b) (sym (line-same (segmentOf g e) refl))))
+      agree-same (rw (t, le-leb e grown (omega arith), segment-same b) (sym (line-same (segmentOf (g .counts) e) refl))))
       (λ f. agree-refused (numbered 12) (rw f) refl)

@@ -88,6 +88,8 @@ module _ (older newer : Table) (was : Accepted older) (is : Accepted newer) (say
       record {
         some = old-segments .some;
         more = begins-longer (older .segments .counts) (newer .segments .counts) (says kept-counts);
+        older-times = old-segments .times-length;
+        newer-times = new-segments .times-length;
         rows = row-same;
         further = further;
         grow = λ i b. new-segments .grow i b .times;

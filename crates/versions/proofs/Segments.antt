@@ -2,6 +2,7 @@
 use Prim.Native.Nat.{ℕ, _+_, _≤_, _<_}
 use mathlib.Core.Path.{_≡_, ap}
 use mathlib.Core.Bool.{true, false}
+use lib.ListN.{length}
 use lib.Signed.{ltZ}
 use Rattle.rules.specs.Segments.{Segments, segmentsIn, rowOf, overtakes}
 
@@ -9,6 +10,8 @@ use Rattle.rules.specs.Segments.{Segments, segmentsIn, rowOf, overtakes}
 pub record KeptSegments (unit total : ℕ) (g h : Segments) : Type 0 where
   pub some : 1 ≤ segmentsIn g
   pub more : segmentsIn g ≤ segmentsIn h
+  pub older-times : length (g .times) ≡ segmentsIn g
+  pub newer-times : length (h .times) ≡ segmentsIn h
   pub rows : (i : ℕ) → i < segmentsIn g → rowOf h i ≡ rowOf g i
   pub further : (i : ℕ) → segmentsIn g ≤ i → i < segmentsIn h → total < rowOf h i .count
   pub grow : (i : ℕ) → i + 1 < segmentsIn h → ltZ (rowOf h i .time) (rowOf h (i + 1) .time) ≡ true

@@ -10,7 +10,7 @@ use lib.Dec.{leb}
 use lib.IntN.{ℤ}
 use lib.Signed.{leZ}
 use borrow.Author.Tests.{ltb-true, ltb-false, leb-true, le-leb, lt-leb, lt-ltb}
-use Rattle.base.specs.Scans.{among}
+use Rattle.base.specs.Scans.{among, lastBelow}
 use Rattle.base.specs.Rounding.{roundUp}
 use Rattle.base.specs.Signed.{elapsed}
 use Rattle.base.proofs.Rounding.{at-most-up, down-at-least}
@@ -19,7 +19,7 @@ use Rattle.base.proofs.Scans.{Last, last-or, last-is, last-none}
 use Rattle.rules.specs.declared.Segment.{Segment}
 use Rattle.rules.specs.Answer.{refuse, numbered, unless}
 use Rattle.rules.specs.Segments.{Segments, segmentsIn, rowOf, hasNext, lineAt, overtakes}
-use Rattle.rules.specs.Time.{segmentAt, lineCount, stoppedAt, notBeyond, countOn, countIn}
+use Rattle.rules.specs.Time.{segmentAt, ticksSince, lineCount, stoppedAt, notBeyond, countOn, countIn}
 use Rattle.versions.specs.Versions.{Agree, olderRefusesTime}
 use Rattle.versions.proofs.Agreement.{agree-same, agree-refused, agree-unless}
 use Rattle.versions.proofs.Lists.{last-more}
@@ -29,7 +29,7 @@ use Rattle.versions.proofs.Segments.{KeptSegments, count-same, time-sam
 -- a line that does not overtake the next segment has reached that one's count once it has begun
 line-reaches : (unit : ℕ) (s next : Segment) (t : ℤ) → 1 ≤ unit → 1 ≤ s .rate → overtakes unit s next ≡ false → leZ (next .time) t ≡ true
     → next .count ≤ lineCount unit s t
-unfolding overtakes lineAt lineCount
+unfolding overtakes lineAt lineCount ticksSince
 line-reaches unit s next t pu pr h b =
     let far = next .count - s .count in
     let d = later-elapsed (s .time) t (roundUp (s .rate * far) unit) (not-later (next .time) _ t h b) in
@@ -38,10 +38,10 @@ line-reaches unit s next t pu pr h b =
     omega arith
 
 -- a count below the next segment's is not stopped
-stop-free : (g : Segments) (i c : ℕ) → (i + 1 < segmentsIn g → c < rowOf g (i + 1) .count) → stoppedAt g i c ≡ c
+stop-free : (g : Segments) (i c : ℕ) → (i + 1 < segmentsIn g → c < rowOf g (i + 1) .count) → stoppedAt (g .counts) i c ≡ c
 unfolding stoppedAt
 stop-free g i c f =
-    by-test (hasNext g i) (λ y. rw (y, lt-leb (rowOf g (i + 1) .count) c (f (ltb-true _ _ y)))) (λ n. rw n)
+    by-test (hasNext (g .counts) i) (λ y. rw (y, lt-leb (rowOf g (i + 1) .count) c (f (ltb-true _ _ y)))) (λ n. rw n)
 
 -- segment i has begun at t
 abbrev begun : Segments → ℤ → ℕ → Bool
@@ -84,13 +84,22 @@ module _ (unit total grown : ℕ) (pu : 1 ≤ unit) (up : total ≤ grown) (g h 
   none-after-last : (i : ℕ) → i + 1 ≡ segmentsIn g → reached i ≤ total → NoneFurther
   none-after-last i e c j b d = none-after (i + 1) (omega arith) (next-not-begun i e (omega arith) c) j b d
 
-  segment-same : NoneFurther → segmentAt h t ≡ segmentAt g t
+  older-segment : segmentAt (g .times) t ≡ lastBelow (begun g t) (segmentsIn g)
   unfolding segmentAt
-  segment-same f = last-more (begun g t) (begun h t) (segmentsIn g) (segmentsIn h) (kept .more) (λ i b. rw (time-same unit total g h kept i b)) f
+  older-segment = rw (kept .older-times)
+
+  newer-segment : segmentAt (h .times) t ≡ lastBelow (begun h t) (segmentsIn h)
+  unfolding segmentAt
+  newer-segment = rw (kept .newer-times)
+
+  segment-same : NoneFurther → segmentAt (h .times) t ≡ lastBelow (begun g t) (segmentsIn g)
+  segment-same f =
+      newer-segment
+      ∙ last-more (begun g t) (begun h t) (segmentsIn g) (segmentsIn h) (kept .more) (λ i b. rw (time-same unit total g h kept i b)) f
 
   -- the count at t on segment i, in each table
   abbrev SameCount : ℕ → Type 0
-  SameCount i = stoppedAt h i (lineCount unit (rowOf h i) t) ≡ stoppedAt g i (reached i)
+  SameCount i = stoppedAt (h .counts) i (lineCount unit (rowOf h i) t) ≡ stoppedAt (g .counts) i (reached i)
 
   -- the stop below the next segment's count
   stopped-inner : (i : ℕ) → i + 1 < segmentsIn g → SameCount i
@@ -98,7 +107,7 @@ module _ (unit total grown : ℕ) (pu : 1 ≤ unit) (up : total ≤ grown) (g h 
   stopped-inner i b =
       rw (reached-same i (omega arith), count-same unit total g h kept (i + 1) b, lt-ltb (i + 1) (segmentsIn g) b, lt-ltb (i + 1) (segmentsIn h) (omega arith))
 
-  free-last : (i : ℕ) → i + 1 ≡ segmentsIn g → stoppedAt g i (reached i) ≡ reached i
+  free-last : (i : ℕ) → i + 1 ≡ segmentsIn g → stoppedAt (g .counts) i (reached i) ≡ reached i
   free-last i e = stop-free g i (reached i) (λ b. absurd (omega arith))
 
   stopped-last : (i : ℕ) → i + 1 ≡ segmentsIn g → reached i ≤ total → SameCount i
@@ -109,23 +118,22 @@ module _ (unit total grown : ℕ) (pu : 1 ≤ unit) (up : total ≤ grown) (g h 
   agree-at : (i : ℕ) → SameCount i → Agree olderRefusesTime (countOn unit total g t (some i)) (countOn unit grown h t (some i))
   unfolding countOn notBeyond unless among
   agree-at i e =
-      let c = stoppedAt g i (reached i) in
+      let c = stoppedAt (g .counts) i (reached i) in
       by-test (leb c total)
       (λ y. let b : c ≤ total = leb-true _ _ y in agree-same (rw (e, y, le-leb c grown (omega arith))))
       (λ f. agree-refused (numbered 14) (rw f) refl)
 
-  found-same : (i : ℕ) → Last (begun g t) (segmentsIn g) i → NoneFurther → segmentAt h t ≡ some i
-  unfolding segmentAt
+  found-same : (i : ℕ) → Last (begun g t) (segmentsIn g) i → NoneFurther → segmentAt (h .times) t ≡ some i
   found-same i w f = segment-same f ∙ last-is (begun g t) (segmentsIn g) i w
 
   refused-last : (i : ℕ) → i + 1 ≡ segmentsIn g → leb (reached i) total ≡ false → countOn unit total g t (some i) ≡ refuse 14
   unfolding countOn notBeyond unless
   refused-last i e f = rw (free-last i e, f)
 
-  agree-found : (i : ℕ) → Last (begun g t) (segmentsIn g) i → Agree olderRefusesTime (countOn unit total g t (some i)) (countOn unit grown h t (segmentAt h t))
+  agree-found : (i : ℕ) → Last (begun g t) (segmentsIn g) i → Agree olderRefusesTime (countOn unit total g t (some i)) (countOn unit grown h t (segmentAt (h .times) t))
   unfolding among
   agree-found i w =
-      by-test (hasNext g i)
+      by-test (hasNext (g .counts) i)
       (λ y. let b : i + 1 < segmentsIn g = ltb-true _ _ y in
       rw (found-same i w (none-after-kept (i + 1) b (w .after (i + 1) (omega arith) b))) (agree-at i (stopped-inner i b)))
       (λ n. let e : i + 1 ≡ segmentsIn g = omega (arith, ltb-false, w .below) in
@@ -134,15 +142,14 @@ module _ (unit total grown : ℕ) (pu : 1 ≤ unit) (up : total ≤ grown) (g h 
       rw (found-same i w (none-after-last i e c)) (agree-at i (stopped-last i e c)))
       (λ f. agree-refused (numbered 14) (refused-last i e f) refl))
 
-  none-same : ((i : ℕ) → i < segmentsIn g → begun g t i ≡ false) → countOn unit total g t (segmentAt g t) ≡ countOn unit grown h t (segmentAt h t)
-  unfolding countOn segmentAt
-  none-same f = rw (segment-same (none-after-kept 0 (omega arith) (f 0 (omega arith))), last-none (begun g t) (segmentsIn g) f)
+  none-same : ((i : ℕ) → i < segmentsIn g → begun g t i ≡ false) → countOn unit total g t (segmentAt (g .times) t) ≡ countOn unit grown h t (segmentAt (h .times) t)
+  unfolding countOn
+  none-same f = rw (segment-same (none-after-kept 0 (omega arith) (f 0 (omega arith))), older-segment, last-none (begun g t) (segmentsIn g) f)
 
-  on-segments : Agree olderRefusesTime (countOn unit total g t (segmentAt g t)) (countOn unit grown h t (segmentAt h t))
-  unfolding segmentAt
+  on-segments : Agree olderRefusesTime (countOn unit total g t (segmentAt (g .times) t)) (countOn unit grown h t (segmentAt (h .times) t))
   on-segments =
       ⊎-elim
-      (λ w. rw (last-is (begun g t) (segmentsIn g) (w .0) (w .1)) (agree-found (w .0) (w .1)))
+      (λ w. rw (older-segment, last-is (begun g t) (segmentsIn g) (w .0) (w .1)) (agree-found (w .0) (w .1)))
       (λ f. agree-same (none-same f))
       (last-or (begun g t) (segmentsIn g))
 
