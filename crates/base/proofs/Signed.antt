@@ -1,11 +1,12 @@
--- Signed numbers from -b to b - 1 as unsigned ones: order, sum and difference are those of their ordinals.
+-- Signed numbers from -b to b - 1 as unsigned ones: order, sum and difference are those of their ordinals. Then order alone.
 use Prim.Native.Nat.{ℕ, zero, suc, _+_, _-_, _≤_, _<_}
-use mathlib.Core.Path.{_≡_, sym}
-use mathlib.Core.Bool.{true, true≢false}
+use mathlib.Core.Path.{_≡_, refl, sym, _∙_}
+use mathlib.Core.Bool.{true, not, true≢false}
 use lib.IntN.{ℤ, pos, negsuc}
 use lib.Dec.{leb, ltb}
 use lib.Signed.{mag, leZ, ltZ}
-use borrow.Author.Tests.{le-leb, lt-leb, lt-ltb, le-ltb, leb-true, ltb-true, ltb-false}
+use borrow.Author.Tests.{le-leb, lt-leb, lt-ltb, le-ltb, leb-true, leb-false, ltb-true, ltb-false}
+use native.Mathlib.Nat.{le-of-lt}
 use native.Mathlib.Omega.{arith}
 use Rattle.base.specs.Signed.{later, elapsed, ordinal}
 use Rattle.base.proofs.Tests.{by-test, same-test}
@@ -86,3 +87,32 @@ module _ (b : ℕ) where
   ordinal-one (pos m) (negsuc n) hx hy e = absurd (omega arith)
   ordinal-one (negsuc m) (pos n) hx hy e = absurd (omega arith)
   ordinal-one (negsuc m) (negsuc n) hx hy e = let q : m ≡ n = omega arith in rw q
+
+-- one time is before another exactly where the other is not at or before it
+pub before-not-after : (s t : ℤ) → ltZ s t ≡ not (leZ t s)
+before-not-after (pos m) (pos n) = by-test (leb n m) (λ h. rw (h, le-ltb m n (leb-true n m h))) (λ h. rw (h, lt-ltb m n (leb-false n m h)))
+before-not-after (pos m) (negsuc n) = refl
+before-not-after (negsuc m) (pos n) = refl
+before-not-after (negsuc m) (negsuc n) = by-test (leb m n) (λ h. rw (h, le-ltb n m (leb-true m n h))) (λ h. rw (h, lt-ltb n m (leb-false m n h)))
+
+pub before-at-most : (s t : ℤ) → ltZ s t ≡ true → leZ s t ≡ true
+before-at-most (pos m) (pos n) h = le-leb m n (le-of-lt (ltb-true m n h))
+before-at-most (pos m) (negsuc n) h = h
+before-at-most (negsuc m) (pos n) h = h
+before-at-most (negsuc m) (negsuc n) h = le-leb n m (le-of-lt (ltb-true n m h))
+
+-- d after t is still at or before z
+pub later-within : (t z : ℤ) (d : ℕ) → leZ t z ≡ true → leZ (later t d) z ≡ leb d (elapsed t z)
+later-within t z d h =
+    let b = suc (mag (later t d) + mag t + mag z) in
+    let ht : mag t < b = omega arith in
+    let hz : mag z < b = omega arith in
+    let hl : mag (later t d) < b = omega arith in
+    let up : ordinal b t ≤ ordinal b z = leb-true _ _ (sym (ordinal-le b t z ht hz) ∙ h) in
+    ordinal-le b (later t d) z hl hz ∙ rw (ordinal-later b t d ht, ordinal-elapsed b t z ht hz h) (moved (ordinal b t) (ordinal b z) up)
+  where
+    moved : (x y : ℕ) → x ≤ y → leb (x + d) y ≡ leb d (y - x)
+    moved x y u =
+        same-test (leb (x + d) y) (leb d (y - x))
+        (λ t. le-leb d (y - x) (let k = leb-true (x + d) y t in omega arith))
+        (λ t. le-leb (x + d) y (let k = leb-true d (y - x) t in omega arith))

@@ -1,5 +1,4 @@
 -- Laws of accepting tables, and what a caller has of it.
 pub mod Guards
-pub mod Ways
-pub mod Uses
-pub mod Table
+pub mod Accepted
+pub mod Accepting

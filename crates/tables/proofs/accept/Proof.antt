@@ -1,4 +1,4 @@
-use Rattle.tables.proofs.Table.{unit-divides, all-three, stamps-out, segments-out}
+use Rattle.tables.proofs.Accepting.{unit-divides, stamps-out, segments-out, all-three}
 use borrow.Author.Needs.{needs}
 use Rattle.tables.proofs.accept.Statement.{statement}
 use Rattle.tables.proofs.accept.Tie as tie
@@ -9,11 +9,10 @@ accept-spec =
     (tie.spec
     (λ c κs. search needs)
     (λ c. search needs)
-    (λ c κs. search needs)
-    (λ c. search needs)
     (λ c κs. search (unit-divides, needs))
-    (λ c κs. search needs)
+    (λ c. search needs)
+    (λ c. search needs)
+    (λ c. search needs)
     (λ c. search (all-three, needs))
-    (λ c κs. search needs)
-    (λ c. search (stamps-out, needs))
-    (λ c. search (segments-out, needs)))
+    (λ c. search (segments-out, needs))
+    (λ c. search (stamps-out, needs)))

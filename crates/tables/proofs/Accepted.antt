@@ -1,0 +1,119 @@
+-- What a caller has of accepted tables, by the case of the answer: `stamps-..` of layout and partitions, `table-..` of all three.
+use Prim.Native.Nat.{ℕ}
+use mathlib.Core.Path.{_≡_, refl, sym, _∙_, ap}
+use mathlib.Core.Bool.{Bool, true, false}
+use Rattle.rules.specs.declared.Layout.{Layout}
+use Rattle.rules.specs.declared.Refusal.{Refusal}
+use Rattle.rules.specs.Answer.{Answer, answer, refused, unless, andThen}
+use Rattle.rules.specs.Layout.{layoutOk, productOf, unitOf}
+use Rattle.rules.specs.Partitions.{Partitions, partitionsOk, totalOf}
+use Rattle.rules.specs.Segments.{Segments, segmentsOk}
+use Rattle.rules.specs.Time.{accepted}
+use Rattle.rules.proofs.Accepted.{layout-facts, partitions-facts, segments-facts}
+use Rattle.rules.proofs.Answers.{unless-test, unless-rest}
+use Rattle.layouts.specs.declared.MeasureAnswer.{MeasureAnswer}
+use Rattle.layouts.specs.Measure.{measureAnswer, measureOf, measured}
+use Rattle.layouts.proofs.Units.{unit-facts}
+use Rattle.tables.specs.declared.Basis.{Basis}
+use Rattle.tables.specs.declared.Acceptance.{Acceptance}
+use Rattle.tables.specs.declared.Acceptance.the-variants.{Accepted, Refused}
+use Rattle.tables.specs.Accept.{basis, acceptance, stampsBasis, tableBasis, StampsFacts, TableFacts}
+use Rattle.tables.proofs.Guards.{passed, refused-same, then-unless}
+
+-- two answers with one payload
+payload : {A : Type 0} {x y : A} → answer x ≡ answer y → x ≡ y
+payload q = cc
+
+module _ (l : Layout) (p : Partitions) where
+  -- 1 and 2, and then what follows
+  abbrev stampsGuards : {A : Type 0} → Answer A → Answer A
+  stampsGuards a = unless 1 (layoutOk l) (unless 2 (partitionsOk (productOf l) p) a)
+
+  abbrev found : Basis
+  found = basis (unitOf l) (totalOf p)
+
+  -- where both guards let the basis through
+  module _ (b : Basis) (two : stampsGuards (answer found) ≡ answer b) where
+    second : unless 2 (partitionsOk (productOf l) p) (answer found) ≡ answer b
+    second = unless-rest 1 (layoutOk l) _ b two
+
+    same : found ≡ b
+    same = payload (unless-rest 2 (partitionsOk (productOf l) p) _ b second)
+
+    facts-behind : StampsFacts l p b
+    facts-behind =
+        let good = layout-facts l (unless-test 1 (layoutOk l) _ b two) in
+        record {
+          layout = good;
+          partitions = partitions-facts (productOf l) p (unless-test 2 (partitionsOk (productOf l) p) _ b second);
+          unit = rw (← same);
+          total = rw (← same);
+          divides = rw (← same) (unit-facts l good);
+        }
+
+    behind : {A : Type 0} (x a : Answer A) → x ≡ a → x ≡ stampsGuards a
+    behind x a q =
+        passed 1 (layoutOk l) (unless 2 (partitionsOk (productOf l) p) a) x (unless-test 1 (layoutOk l) _ b two)
+        (passed 2 (partitionsOk (productOf l) p) a x (unless-test 2 (partitionsOk (productOf l) p) _ b second) q)
+
+  module _ (m : MeasureAnswer) (w : measureAnswer m ≡ measureOf l) (r : Acceptance) where
+    module _ (e : acceptance r ≡ andThen (measureAnswer m) (stampsBasis p)) where
+      stamps-same : acceptance r ≡ stampsGuards (answer found)
+      unfolding measureOf stampsBasis andThen
+      stamps-same = e ∙ rw w (then-unless 1 (layoutOk l) (answer (measured l)) (stampsBasis p))
+
+      pub stamps-refused : {A : Type 0} (k : Refusal) (a : Answer A) → r ≡ Refused k → refused k ≡ unless 1 (layoutOk l) (unless 2 (partitionsOk (productOf l) p) a)
+      stamps-refused k a h =
+          refused-same k 1 (layoutOk l) (unless 2 (partitionsOk (productOf l) p) (answer found)) (unless 2 (partitionsOk (productOf l) p) a) (rw h at (sym stamps-same))
+          (λ x. refused-same k 2 (partitionsOk (productOf l) p) (answer found) a x (λ z. cc))
+
+      module _ (b : Basis) (h : r ≡ Accepted b) where
+        two-guards : stampsGuards (answer found) ≡ answer b
+        two-guards = rw h at (sym stamps-same)
+
+        pub stamps-facts : StampsFacts l p b
+        stamps-facts = facts-behind b two-guards
+
+        -- where the tables are accepted, what follows is the call's answer
+        pub stamps-accepted : {A : Type 0} (x a : Answer A) → x ≡ a → x ≡ unless 1 (layoutOk l) (unless 2 (partitionsOk (productOf l) p) a)
+        stamps-accepted x a q = behind b two-guards x a q
+
+    module _ (g : Segments) (e : acceptance r ≡ andThen (measureAnswer m) (tableBasis p g)) where
+      table-same : acceptance r ≡ accepted l p g (answer found)
+      unfolding measureOf stampsBasis tableBasis andThen accepted
+      table-same =
+          e
+          ∙ rw w (then-unless 1 (layoutOk l) (answer (measured l)) (tableBasis p g))
+          ∙ ap (unless 1 (layoutOk l)) (then-unless 2 (partitionsOk (productOf l) p) (answer found) (λ b. unless 3 (segmentsOk (b .unit) (b .total) g) (answer b)))
+
+      pub table-refused : {A : Type 0} (k : Refusal) (a : Answer A) → r ≡ Refused k → refused k ≡ accepted l p g a
+      unfolding accepted
+      table-refused k a h =
+          refused-same k 1 (layoutOk l) _ _ (rw h at (sym table-same))
+          (λ x. refused-same k 2 (partitionsOk (productOf l) p) _ _ x
+          (λ y. refused-same k 3 (segmentsOk (unitOf l) (totalOf p) g) (answer found) a y (λ z. cc)))
+
+      module _ (b : Basis) (h : r ≡ Accepted b) where
+        guarded : stampsGuards (unless 3 (segmentsOk (unitOf l) (totalOf p) g) (answer found)) ≡ answer b
+        unfolding accepted
+        guarded = rw h at (sym table-same)
+
+        third : unless 3 (segmentsOk (unitOf l) (totalOf p) g) (answer found) ≡ answer b
+        third = unless-rest 2 (partitionsOk (productOf l) p) _ b (unless-rest 1 (layoutOk l) _ b guarded)
+
+        segments-good : segmentsOk (unitOf l) (totalOf p) g ≡ true
+        segments-good = unless-test 3 (segmentsOk (unitOf l) (totalOf p) g) _ b third
+
+        first-two : stampsGuards (answer found) ≡ answer b
+        unfolding unless
+        first-two = rw segments-good at guarded
+
+        pub table-facts : TableFacts l p g b
+        table-facts =
+            let s = facts-behind b first-two in
+            record { stamps = s; segments = segments-facts (b .unit) (b .total) g (rw (s .unit, s .total) segments-good) }
+
+        pub table-accepted : {A : Type 0} (x a : Answer A) → x ≡ a → x ≡ accepted l p g a
+        unfolding accepted
+        table-accepted x a q =
+            behind b first-two x (unless 3 (segmentsOk (unitOf l) (totalOf p) g) a) (passed 3 (segmentsOk (unitOf l) (totalOf p) g) a x segments-good q)
