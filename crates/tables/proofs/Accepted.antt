@@ -43,12 +43,13 @@ module _ (l : Layout) (p : Partitions) where
     facts-behind : StampsFacts l p b
     facts-behind =
         let good = layout-facts l (unless-test 1 (layoutOk l) _ b two) in
+        let spans = partitions-facts (productOf l) p (unless-test 2 (partitionsOk (productOf l) p) _ b second) in
         record {
           layout = good;
-          partitions = partitions-facts (productOf l) p (unless-test 2 (partitionsOk (productOf l) p) _ b second);
+          partitions = spans;
           unit = rw (← same);
           total = rw (← same);
-          divides = rw (← same) (unit-facts l good);
+          numbers = rw (← same) (record { divides = unit-facts l good; small = spans .total });
         }
 
     behind : {A : Type 0} (x a : Answer A) → x ≡ a → x ≡ stampsGuards a

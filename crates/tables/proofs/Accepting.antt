@@ -99,7 +99,7 @@ module _ (l : Layout) (m : MeasureAnswer) (w : measureAnswer m ≡ measureOf l) 
         record { times-length = f .times-length; rates-length = f .rates-length; some = f .some; grow = f .grow }
 
     pub table-unit : 1 ≤ b .unit
-    table-unit = table-facts l p m w a g e b h .stamps .divides .low
+    table-unit = table-facts l p m w a g e b h .stamps .numbers .divides .low
 
     pub stepped : (t s : Bool) → t ≡ stepsBack (b .unit) g → t ≡ s → answer s ≡ stepsBackIn l p g
     unfolding stepsBackIn

@@ -1,8 +1,9 @@
 -- What accepting tables answers, and the named facts of what it accepts.
-use Prim.Native.Nat.{ℕ}
+use Prim.Native.Nat.{ℕ, _≤_}
 use mathlib.Core.Path.{_≡_}
 use Rattle.rules.specs.declared.Layout.{Layout}
 use Rattle.rules.specs.Answer.{Answer, answer, refused, unless, andThen}
+use Rattle.rules.specs.Limits.{largestTotal}
 use Rattle.rules.specs.Layout.{productOf, unitOf}
 use Rattle.rules.specs.Partitions.{Partitions, partitionsOk, totalOf}
 use Rattle.rules.specs.Segments.{Segments, segmentsOk}
@@ -28,13 +29,18 @@ stampsBasis p m = unless 2 (partitionsOk (m .product) p) (answer (basis (m .unit
 unfoldable pub tableBasis : Partitions → Segments → Measured → Answer Basis
 tableBasis p g m = andThen (stampsBasis p m) (λ b. unless 3 (segmentsOk (b .unit) (b .total) g) (answer b))
 
+-- what the numbers of a basis may be
+pub record BasisFacts (unit total : ℕ) : Type 0 where
+  pub divides : UnitFacts unit
+  pub small : total ≤ largestTotal
+
 -- what holds of an accepted layout, accepted partitions and their basis
 pub record StampsFacts (l : Layout) (p : Partitions) (b : Basis) : Type 0 where
   pub layout : LayoutFacts l
   pub partitions : PartitionsFacts (productOf l) p
   pub unit : b .unit ≡ unitOf l
   pub total : b .total ≡ totalOf p
-  pub divides : UnitFacts (b .unit)
+  pub numbers : BasisFacts (b .unit) (b .total)
 
 -- and with accepted segments
 pub record TableFacts (l : Layout) (p : Partitions) (g : Segments) (b : Basis) : Type 0 where

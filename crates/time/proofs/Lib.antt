@@ -1,7 +1,4 @@
-pub mod RowLaws
+pub mod Rows
+pub mod Range
 pub mod Promises
-pub mod WithinLaws
-pub mod StopLaws
-pub mod CallLaws
-pub mod RangeLaws
-pub mod AcceptLaws
+pub mod Conversions

@@ -1,6 +1,6 @@
 -- The promises of specs/Promises.antt.
 use Prim.Native.Nat.{ℕ, suc, _-_, _*_, _≤_, _<_}
-use mathlib.Core.Path.{_≡_, refl}
+use mathlib.Core.Path.{_≡_, refl, sym, ap}
 use mathlib.Core.Bool.{true, _&&_}
 use mathlib.Core.Option.{Option, none, some}
 use lib.IntN.{ℤ, pos, negsuc}
@@ -14,68 +14,81 @@ use Rattle.base.proofs.Tests.{by-test}
 use Rattle.base.proofs.Rounding.{up-above, up-below, down-below, down-above}
 use Rattle.rules.specs.Limits.{earliestTime, latestTime}
 use Rattle.rules.specs.declared.Layout.{Layout}
-use Rattle.rules.specs.Answer.{Answer, answer}
-use Rattle.rules.specs.Layout.{layoutOk}
+use Rattle.rules.specs.declared.TimeOfCount.{TimeOfCount}
+use Rattle.rules.specs.declared.CountAtTime.{CountAtTime}
+use Rattle.rules.specs.Answer.{Answer, answer, timeOfCount, countAtTime}
+use Rattle.rules.specs.Layout.{layoutOk, productOf, unitOf}
 use Rattle.rules.specs.Partitions.{Partitions, totalOf, partitionsOk}
-use Rattle.rules.specs.Segments.{Segments, rowOf, unitOf, lineAt, segmentsOk}
-use Rattle.rules.specs.Facts.{LayoutFacts, SegmentsFacts}
-use Rattle.rules.specs.Time.{accepted, segmentOf, segmentAt, timeIn, timeOf, countIn, countAt, lineCount, stoppedAt}
+use Rattle.rules.specs.Segments.{Segments, rowOf, lineAt, segmentsOk}
+use Rattle.rules.specs.Facts.{SegmentsFacts}
+use Rattle.rules.specs.Time.{accepted, segmentOf, segmentAt, timeOn, timeIn, timeOf, notBeyond, countOn, countIn, countAt, ticksSince, lineCount, stoppedAt}
 use Rattle.rules.proofs.Accepted.{layout-facts, segments-facts}
-use Rattle.rules.proofs.Answers.{unless-test, unless-rest}
+use Rattle.rules.proofs.Answers.{not-answer, unless-test, unless-rest}
+use Rattle.layouts.specs.Measure.{UnitFacts}
+use Rattle.layouts.proofs.Units.{unit-facts}
 use Rattle.time.specs.Promises.{TimeIsNearest, CountIsNearest, TickLasts, TimeInRange, TwelveNotThirteen}
-use Rattle.time.proofs.RowLaws.{unit-low, reached, count-below, row-in, time-row-in}
+use Rattle.time.proofs.Rows.{reached, count-below, count-row, time-row}
 
 record Passed (A : Type 0) (l : Layout) (p : Partitions) (g : Segments) (a : Answer A) (x : A) : Type 0 where
-  layout : LayoutFacts l
-  segments : SegmentsFacts l p g
+  unit : UnitFacts (unitOf l)
+  segments : SegmentsFacts (unitOf l) (totalOf p) g
   rest : a ≡ answer x
 
 passed : {A : Type 0} (l : Layout) (p : Partitions) (g : Segments) (a : Answer A) (x : A) → accepted l p g a ≡ answer x → Passed A l p g a x
 unfolding accepted
 passed l p g a x e =
     let e2 = unless-rest 1 (layoutOk l) _ x e in
-    let e3 = unless-rest 2 (partitionsOk l p) _ x e2 in
+    let e3 = unless-rest 2 (partitionsOk (productOf l) p) _ x e2 in
     record {
-      layout = layout-facts l (unless-test 1 (layoutOk l) _ x e);
-      segments = segments-facts l p g (unless-test 3 (segmentsOk l p g) a x e3);
-      rest = unless-rest 3 (segmentsOk l p g) a x e3;
+      unit = unit-facts l (layout-facts l (unless-test 1 (layoutOk l) _ x e));
+      segments = segments-facts (unitOf l) (totalOf p) g (unless-test 3 (segmentsOk (unitOf l) (totalOf p) g) a x e3);
+      rest = unless-rest 3 (segmentsOk (unitOf l) (totalOf p) g) a x e3;
     }
 
--- the segment behind an answer
-time-found : (l : Layout) (g : Segments) (e : ℕ) (t : ℤ) (o : Option ℕ) → timeIn l g e o ≡ answer t → (i : ℕ) × (o ≡ some i) × (t ≡ lineAt l g i e)
-unfolding timeIn
-time-found l g e t (some i) h = (i, refl, cc)
-time-found l g e t none h = let z : _≡_ {A = ℕ} 0 1 = cc in absurd (omega arith)
+payload : {A : Type 0} {x y : A} → answer x ≡ answer y → x ≡ y
+payload q = cc
 
-count-found : (l : Layout) (p : Partitions) (g : Segments) (t : ℤ) (c : ℕ) (o : Option ℕ) → countIn l p g t o ≡ answer c
-    → (i : ℕ) × (o ≡ some i) × (c ≡ stoppedAt g i (lineCount l g i t))
-unfolding countIn
-count-found l p g t c (some i) h = (i, refl, let w = unless-rest 14 _ (answer (stoppedAt g i (lineCount l g i t))) c h in cc)
-count-found l p g t c none h = let z : _≡_ {A = ℕ} 0 1 = cc in absurd (omega arith)
+-- the segment behind an answer
+time-found : (unit : ℕ) (g : Segments) (e : ℕ) (t : ℤ) (o : Option ℕ) → timeOn unit g e o ≡ answer (timeOfCount t) → (i : ℕ) × (o ≡ some i) × (t ≡ lineAt unit (rowOf g i) e)
+unfolding timeOn
+time-found unit g e t (some i) h = (i, refl, sym (ap (λ (x : TimeOfCount). x .time) (payload h)))
+time-found unit g e t none h = absurd (not-answer h)
+
+count-given : (total c d : ℕ) → notBeyond total d ≡ answer (countAtTime c) → c ≡ d
+unfolding notBeyond
+count-given total c d h =
+    sym (ap (λ (x : CountAtTime). x .count) (payload (unless-rest 14 (leb d total) (answer (countAtTime d)) (countAtTime c) h)))
+
+count-found : (unit total : ℕ) (g : Segments) (t : ℤ) (c : ℕ) (o : Option ℕ) → countOn unit total g t o ≡ answer (countAtTime c)
+    → (i : ℕ) × (o ≡ some i) × (c ≡ stoppedAt (g .counts) i (lineCount unit (rowOf g i) t))
+unfolding countOn
+count-found unit total g t c (some i) h = (i, refl, count-given total c _ h)
+count-found unit total g t c none h = absurd (not-answer h)
 
 pub time-is-nearest : TimeIsNearest
-unfolding timeOf lineAt
+unfolding timeOf timeIn lineAt
 time-is-nearest l p g e t h =
-    let w = passed l p g _ t h in
-    let f = time-found l g e t (segmentOf g e) (unless-rest 12 (leb e (totalOf p)) _ t (w .rest)) in
-    let u = unit-low l (w .layout) in
+    let w = passed l p g _ _ h in
+    let f = time-found (unitOf l) g e t (segmentOf (g .counts) e) (unless-rest 12 (leb e (totalOf p)) _ _ (w .rest)) in
+    let u = w .unit .low in
     let x : ℕ = rowOf g (f .0) .rate * (e - rowOf g (f .0) .count) in
     (f .0, roundUp x (unitOf l), f .1, f .2, record { at-or-after = up-above x (unitOf l) u; less-than-one-late = up-below x (unitOf l) u })
 
 pub count-is-nearest : CountIsNearest
-unfolding countAt lineCount
+unfolding countAt countIn lineCount ticksSince
 count-is-nearest l p g t c h =
-    let w = passed l p g _ c h in
-    let f = count-found l p g t c (segmentAt g t) (unless-rest 14 (leZ earliestTime t && leZ t latestTime) _ c (w .rest)) in
-    let r : 0 < rowOf g (f .0) .rate = positive (unit-low l (w .layout)) (w .segments .each (f .0) (time-row-in l (w .layout) p g (w .segments) t (f .0) (f .1)) .rate-low) in
-    let x : ℕ = elapsed (rowOf g (f .0) .time) t * unitOf l in
-    (f .0, roundDown x (rowOf g (f .0) .rate), f .1, f .2, record { at-or-before = down-below x (rowOf g (f .0) .rate); less-than-one-early = down-above x (rowOf g (f .0) .rate) r })
+    let w = passed l p g _ _ h in
+    let f = count-found (unitOf l) (totalOf p) g t c (segmentAt (g .times) t) (unless-rest 14 (leZ earliestTime t && leZ t latestTime) _ _ (w .rest)) in
+    let i = f .0 in
+    let r : 0 < rowOf g i .rate = positive (w .unit .low) (w .segments .each i (time-row (unitOf l) (totalOf p) g (w .segments) (w .unit) t i (f .1)) .rate-low) in
+    let x : ℕ = elapsed (rowOf g i .time) t * unitOf l in
+    (i, roundDown x (rowOf g i .rate), f .1, f .2, record { at-or-before = down-below x (rowOf g i .rate); less-than-one-early = down-above x (rowOf g i .rate) r })
   where
     positive : {u r : ℕ} → 1 ≤ u → u ≤ r → 0 < r
     positive a b = omega arith
 
 pub tick-lasts : TickLasts
-tick-lasts l p g h i b = segments-facts l p g h .each i b .rate-low
+tick-lasts unit total g h i b = segments-facts unit total g h .each i b .rate-low
 
 -- a time later than one at or after the earliest
 later-early : (t : ℤ) (d : ℕ) → leZ earliestTime t ≡ true → leZ earliestTime (later t d) ≡ true
@@ -90,21 +103,18 @@ later-early (negsuc m) d h =
     less q = omega arith
 
 pub time-in-range : TimeInRange
-unfolding timeOf lineAt
+unfolding timeOf timeIn lineAt
 time-in-range l p g e t h =
-    let w = passed l p g _ t h in
-    let total = leb-true e (totalOf p) (unless-test 12 (leb e (totalOf p)) _ t (w .rest)) in
-    let f = time-found l g e t (segmentOf g e) (unless-rest 12 (leb e (totalOf p)) _ t (w .rest)) in
+    let w = passed l p g _ _ h in
+    let total = leb-true e (totalOf p) (unless-test 12 (leb e (totalOf p)) _ _ (w .rest)) in
+    let f = time-found (unitOf l) g e t (segmentOf (g .counts) e) (unless-rest 12 (leb e (totalOf p)) _ _ (w .rest)) in
     let i = f .0 in
-    let row = row-in l (w .layout) p g (w .segments) e i (f .1) total in (
+    let row = count-row (unitOf l) (totalOf p) g (w .segments) (w .unit) e i (f .1) in (
       rw (f .2) (later-early (rowOf g i .time) _ (w .segments .each i row .early)),
-      rw (f .2) (reached l (w .layout) p g (w .segments) e i (f .1) total),
+      rw (f .2) (reached (unitOf l) (totalOf p) g (w .segments) (w .unit) e i (f .1) total),
     )
 
 pub twelve-not-thirteen : TwelveNotThirteen
-twelve-not-thirteen l p g h e above =
-    let f = segments-facts l p g h in
-    omega (arith, count-below-total f, above)
-  where
-    count-below-total : SegmentsFacts l p g → rowOf g 0 .count ≤ totalOf p
-    count-below-total f = count-below l p g f 0 (omega (arith, f .some))
+twelve-not-thirteen unit total g h e above =
+    let f = segments-facts unit total g h in
+    omega (arith, count-below unit total g f 0 (omega (arith, f .some)), above)

@@ -4,6 +4,8 @@ ghost use Rattle.rules.specs.Answer.{timeAnswer, countAnswer};
 ghost use Rattle.rules.specs.Partitions.{partitions};
 ghost use Rattle.rules.specs.Segments.{segments};
 ghost use Rattle.rules.specs.Time.{timeOf, countAt};
+use crate::within::count_within;
+use crate::within::time_within;
 use layouts::measure;
 use rules::CountAnswer;
 use rules::Layout;
@@ -11,7 +13,7 @@ use rules::TimeAnswer;
 use tables::Acceptance;
 use tables::accept;
 
-mod within;
+pub mod within;
 
 // The time of an encoded count.
 pub fn time_of(
@@ -26,15 +28,8 @@ pub fn time_of(
     ensures { λ r. ⌜ timeAnswer r ≡ timeOf layout (partitions (now (starts .entry)) (now (ends .entry))) (segments (now (counts .entry)) (now (times .entry)) (now (rates .entry))) encoded ⌝ }
 {
     match accept(measure(layout), starts, ends, counts, times, rates) {
-        Acceptance::Accepted(b) => within::time_within(
-            b.unit,
-            b.total,
-            counts,
-            times,
-            rates,
-            encoded,
-        ),
-        Acceptance::Refused(k) => no_time(k),
+        Acceptance::Accepted(b) => time_within(b.unit, b.total, counts, times, rates, encoded),
+        Acceptance::Refused(k) => TimeAnswer::Refused(k),
     }
 }
 
@@ -51,26 +46,7 @@ pub fn count_at(
     ensures { λ r. ⌜ countAnswer r ≡ countAt layout (partitions (now (starts .entry)) (now (ends .entry))) (segments (now (counts .entry)) (now (times .entry)) (now (rates .entry))) time ⌝ }
 {
     match accept(measure(layout), starts, ends, counts, times, rates) {
-        Acceptance::Accepted(b) => within::count_within(
-            b.unit,
-            b.total,
-            counts,
-            times,
-            rates,
-            time,
-        ),
-        Acceptance::Refused(k) => no_count(k),
+        Acceptance::Accepted(b) => count_within(b.unit, b.total, counts, times, rates, time),
+        Acceptance::Refused(k) => CountAnswer::Refused(k),
     }
-}
-
-fn no_time(number: u64) -> TimeAnswer
-    ensures { λ r. ⌜ r ≡ TimeAnswer.Refused number ⌝ }
-{
-    TimeAnswer::Refused(number)
-}
-
-fn no_count(number: u64) -> CountAnswer
-    ensures { λ r. ⌜ r ≡ CountAnswer.Refused number ⌝ }
-{
-    CountAnswer::Refused(number)
 }

@@ -1,26 +1,28 @@
-// The two conversions within accepted tables.
+// The two conversions within accepted segments.
 ghost use mathlib.Core.Path.{_≡_};
-ghost use mathlib.Core.Bool.{cond, _&&_};
+ghost use mathlib.Core.Bool.{_&&_};
+ghost use mathlib.Core.Option.{some};
 ghost use lib.Signed.{leZ};
-ghost use Rattle.rules.specs.Limits.{earliestTime, latestTime};
-ghost use lib.Dec.{leb};
-ghost use lib.IntN.{pos};
 ghost use lib.ListN.{length, getD};
-ghost use Prim.Native.Nat.{_+_, _-_, _*_, _≤_, _<_};
-ghost use Rattle.base.specs.Rounding.{roundUp, roundDown};
-ghost use Rattle.base.specs.Signed.{later, elapsed};
-ghost use Rattle.rules.specs.Answer.{timeAnswer, countAnswer, answer, unless};
+ghost use Prim.Native.Nat.{_+_, _≤_, _<_};
+ghost use Rattle.rules.specs.Limits.{earliestTime, latestTime};
+ghost use Rattle.rules.specs.Answer.{timeAnswer, countAnswer};
 ghost use Rattle.rules.specs.Segments.{segments};
-ghost use Rattle.time.specs.Within.{timeWithin, countWithin, RowIn, TimeRow, Usable};
-ghost use Rattle.segment_line.specs.Line.{Forward, Back};
+ghost use Rattle.rules.specs.Facts.{SegmentsFacts};
+ghost use Rattle.rules.specs.Time.{segmentAt, stoppedAt, notBeyond, timeIn, countOn, countIn};
+ghost use Rattle.tables.specs.Accept.{BasisFacts};
 use layouts::limits::EARLIEST_TIME;
 use layouts::limits::LATEST_TIME;
 use rules::CountAnswer;
+use rules::CountAtTime;
 use rules::TimeAnswer;
+use rules::TimeOfCount;
 use segment_line::ticks_on;
 use segment_line::time_on;
+use segment_search::Found;
 use segment_search::row_of_count;
 use segment_search::row_of_time;
+use segments::row::row_at;
 
 pub fn time_within(
     unit: u64,
@@ -30,26 +32,19 @@ pub fn time_within(
     rates: &[u64],
     e: u64,
 ) -> TimeAnswer
-    requires { ⌜ Usable unit total (segments (now counts) (now times) (now rates)) ⌝ }
-    ensures { λ r. ⌜ timeAnswer r ≡ timeWithin unit total (segments (now (counts .entry)) (now (times .entry)) (now (rates .entry))) e ⌝ }
+    requires { ⌜ BasisFacts unit total ⌝ }
+    requires { ⌜ SegmentsFacts unit total (segments (now counts) (now times) (now rates)) ⌝ }
+    ensures { λ r. ⌜ timeAnswer r ≡ timeIn unit total (segments (now (counts .entry)) (now (times .entry)) (now (rates .entry))) e ⌝ }
 {
     if total < e {
         return TimeAnswer::Refused(refusals::BEYOND_TOTAL);
     }
-    let row = row_of_count(counts, e);
-    if row == 0 {
-        return TimeAnswer::Refused(refusals::BEFORE_FIRST_SEGMENT);
+    match row_of_count(counts, e) {
+        Found::Row(i) => TimeAnswer::Time(TimeOfCount {
+            time: time_on(unit, row_at(counts, times, rates, i), e),
+        }),
+        Found::Nothing => TimeAnswer::Refused(refusals::BEFORE_FIRST_SEGMENT),
     }
-    let i = row - 1;
-    TimeAnswer::Time(time_at(unit, counts, times, rates, i, e))
-}
-
-fn time_at(unit: u64, counts: &[u64], times: &[i64], rates: &[u64], i: usize, e: u64) -> i64
-    requires { ⌜ RowIn (segments (now counts) (now times) (now rates)) i ⌝ }
-    requires { ⌜ Forward unit (getD (now counts) i 0) (getD (now times) i (pos 0)) (getD (now rates) i 0) e ⌝ }
-    ensures { λ r. ⌜ r ≡ later (getD (now (times .entry)) i (pos 0)) (roundUp (getD (now (rates .entry)) i 0 * (e - getD (now (counts .entry)) i 0)) unit) ⌝ }
-{
-    time_on(unit, counts[i], times[i], rates[i], e)
 }
 
 pub fn count_within(
@@ -60,17 +55,21 @@ pub fn count_within(
     rates: &[u64],
     t: i64,
 ) -> CountAnswer
-    requires { ⌜ Usable unit total (segments (now counts) (now times) (now rates)) ⌝ }
-    ensures { λ r. ⌜ countAnswer r ≡ countWithin unit total (segments (now (counts .entry)) (now (times .entry)) (now (rates .entry))) t ⌝ }
+    requires { ⌜ BasisFacts unit total ⌝ }
+    requires { ⌜ SegmentsFacts unit total (segments (now counts) (now times) (now rates)) ⌝ }
+    ensures { λ r. ⌜ countAnswer r ≡ countIn unit total (segments (now (counts .entry)) (now (times .entry)) (now (rates .entry))) t ⌝ }
 {
     if !in_range(t) {
         return CountAnswer::Refused(refusals::TIME_OUT_OF_RANGE);
     }
-    let row = row_of_time(times, t);
-    if row == 0 {
-        return CountAnswer::Refused(refusals::BEFORE_FIRST_SEGMENT);
+    match row_of_time(times, t) {
+        Found::Row(i) => {
+            let row = row_at(counts, times, rates, i);
+            let reached = row.count + ticks_on(unit, row, t);
+            not_beyond(total, stopped(counts, i, reached))
+        }
+        Found::Nothing => CountAnswer::Refused(refusals::BEFORE_FIRST_SEGMENT),
     }
-    count_at_row(unit, total, counts, times, rates, row, t)
 }
 
 fn in_range(t: i64) -> bool
@@ -82,55 +81,26 @@ fn in_range(t: i64) -> bool
     t <= LATEST_TIME
 }
 
-// The count at a time of the segment before `row`.
-fn count_at_row(
-    unit: u64,
-    total: u64,
-    counts: &[u64],
-    times: &[i64],
-    rates: &[u64],
-    row: usize,
-    t: i64,
-) -> CountAnswer
-    requires { ⌜ Usable unit total (segments (now counts) (now times) (now rates)) ⌝ }
-    requires { ⌜ TimeRow (segments (now counts) (now times) (now rates)) t row ⌝ }
-    ensures { λ r. ⌜ countAnswer r ≡ countWithin unit total (segments (now (counts .entry)) (now (times .entry)) (now (rates .entry))) t ⌝ }
+// A count on row `i`, stopped below the next row's count.
+fn stopped(counts: &[u64], i: usize, count: u64) -> u64
+    requires { ⌜ i < length (now counts) ⌝ }
+    requires { ⌜ (i + 1 < length (now counts) → 1 ≤ getD (now counts) (i + 1) 0) ⌝ }
+    ensures { λ r. ⌜ r ≡ stoppedAt (now (counts .entry)) i count ⌝ }
 {
-    let i = row - 1;
-    let q = ticks_at(unit, times, rates, i, t);
-    let count = counts[i];
-    if row < counts.len() {
-        return CountAnswer::Count(stopped(count, counts[row], q));
+    if i + 1 < counts.len() {
+        let next = counts[i + 1];
+        if next <= count {
+            return next - 1;
+        }
     }
-    in_total(total, count, q)
+    count
 }
 
-fn ticks_at(unit: u64, times: &[i64], rates: &[u64], i: usize, t: i64) -> u64
-    requires { ⌜ (i < length (now times)) × (i < length (now rates)) ⌝ }
-    requires { ⌜ Back unit (getD (now times) i (pos 0)) (getD (now rates) i 0) t ⌝ }
-    ensures { λ r. ⌜ r ≡ roundDown (elapsed (getD (now (times .entry)) i (pos 0)) t * unit) (getD (now (rates .entry)) i 0) ⌝ }
+fn not_beyond(total: u64, count: u64) -> CountAnswer
+    ensures { λ r. ⌜ countAnswer r ≡ notBeyond total count ⌝ }
 {
-    ticks_on(unit, times[i], rates[i], t)
-}
-
-// `q` ticks after `count`, stopped below the next segment's count.
-fn stopped(count: u64, next: u64, q: u64) -> u64
-    requires { ⌜ count < next ⌝ }
-    ensures { λ r. ⌜ r ≡ cond (leb next (count + q)) (next - 1) (count + q) ⌝ }
-{
-    if next - count <= q {
-        return next - 1;
-    }
-    count + q
-}
-
-// `q` ticks after the last segment's count, where that is not above the total.
-fn in_total(total: u64, count: u64, q: u64) -> CountAnswer
-    requires { ⌜ count ≤ total ⌝ }
-    ensures { λ r. ⌜ countAnswer r ≡ unless 14 (leb (count + q) total) (answer (count + q)) ⌝ }
-{
-    if total - count < q {
+    if total < count {
         return CountAnswer::Refused(refusals::TIME_OUT_OF_RANGE);
     }
-    CountAnswer::Count(count + q)
+    CountAnswer::Count(CountAtTime { count })
 }
