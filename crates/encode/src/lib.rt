@@ -7,7 +7,7 @@ ghost use lib.ListN.{length};
 ghost use Rattle.rules.specs.Partitions.{partitions, lengthsBefore};
 ghost use Rattle.rules.specs.Stamp.{encodeNamed, encodeFirst};
 ghost use Rattle.encode.specs.Listed.{Listed};
-ghost use Rattle.encode.specs.Encoded.{encoded};
+ghost use Rattle.encode.specs.Encoded.{encodedAnswer};
 use rules::Refusal;
 
 // An encoded count.
@@ -19,7 +19,7 @@ pub enum Encoded {
 // In the first partition that holds the count.
 pub fn encode_first(starts: &[u64], ends: &[u64], count: u64) -> Encoded
     requires { ⌜ Listed (partitions (now starts) (now ends)) ⌝ }
-    ensures { λ r. ⌜ encoded r ≡ encodeFirst (partitions (now (starts .entry)) (now (ends .entry))) count ⌝ }
+    ensures { λ r. ⌜ encodedAnswer r ≡ encodeFirst (partitions (now (starts .entry)) (now (ends .entry))) count ⌝ }
 {
     let mut before: u64 = 0;
     let mut i = 0;
@@ -38,7 +38,7 @@ pub fn encode_first(starts: &[u64], ends: &[u64], count: u64) -> Encoded
 // In the partition of the number given; partitions are numbered from 1.
 pub fn encode_named(starts: &[u64], ends: &[u64], number: u64, count: u64) -> Encoded
     requires { ⌜ Listed (partitions (now starts) (now ends)) ⌝ }
-    ensures { λ r. ⌜ encoded r ≡ encodeNamed (partitions (now (starts .entry)) (now (ends .entry))) number count ⌝ }
+    ensures { λ r. ⌜ encodedAnswer r ≡ encodeNamed (partitions (now (starts .entry)) (now (ends .entry))) number count ⌝ }
 {
     if number < 1 {
         return Encoded::Refused(refusals::NO_SUCH_PARTITION);
