@@ -3,3 +3,4 @@ pub mod Slots
 pub mod Slash
 pub mod Parse
 pub mod Encode
+pub mod Calls

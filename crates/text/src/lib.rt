@@ -15,18 +15,30 @@ use encode::encode_named;
 use fields::count;
 use fields::is_number;
 use fields::scan;
+use layouts::MeasureAnswer;
+use layouts::limits::LONGEST_TEXT;
+use layouts::measure;
 use rules::Layout;
 use rules::ReadAnswer;
 use rules::Reading;
 use rules::Refusal;
-
-const LONGEST_TEXT: usize = 96;
 
 // A stamp as it is written: the partition's number where one stands in front, and the count of its clock text.
 pub enum ParsedStamp {
     Named(u64, Reading),
     Unnamed(Reading),
     Refused(Refusal),
+}
+
+// Text without a partition.
+pub fn read_text(layout: Layout, text: &[u8]) -> ReadAnswer
+    ensures { λ r. ⌜ readAnswer r ≡ readText layout (now (text .entry)) ⌝ }
+{
+    let n = layout.n;
+    match measure(layout) {
+        MeasureAnswer::Accepted(_) => text_in(&layout.moduli, &layout.offsets, n, text),
+        MeasureAnswer::Refused(k) => ReadAnswer::Refused(k),
+    }
 }
 
 // Text under a layout whose fields are the first `n` slots.
