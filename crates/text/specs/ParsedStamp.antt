@@ -1,5 +1,5 @@
 -- A stamp as the code parses it: that of rules' specs/Stamp.antt, with a partition's number up to a cap.
-use Prim.Native.Nat.{ℕ, min}
+use Prim.Native.Nat.{min}
 use Rattle.rules.specs.Answer.{Answer, answer, refused}
 use Rattle.rules.specs.Stamp.{Parsed, named, unnamed}
 use Rattle.fields.specs.Pass.{fieldCap}

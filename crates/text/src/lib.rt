@@ -42,7 +42,7 @@ pub fn read_text(layout: Layout, text: &[u8]) -> ReadAnswer
 }
 
 // Text under a layout whose fields are the first `n` slots.
-pub fn text_in<'a>(moduli: &'a [u64], offsets: &'a [u64], n: usize, text: &[u8]) -> ReadAnswer
+fn text_in<'a>(moduli: &'a [u64], offsets: &'a [u64], n: usize, text: &[u8]) -> ReadAnswer
     requires { ⌜ (1 ≤ n) × (n ≤ length (now moduli)) × (n ≤ length (now offsets)) ⌝ }
     ensures { λ r. ⌜ readAnswer r ≡ parseText (take n (now (moduli .entry))) (take n (now (offsets .entry))) (now (text .entry)) ⌝ }
 {
@@ -62,11 +62,7 @@ pub fn stamp_in<'a>(
     requires { ⌜ Listed (partitions (now starts) (now ends)) ⌝ }
     ensures { λ r. ⌜ readAnswer r ≡ andThen (parseStamp (take n (now (moduli .entry))) (take n (now (offsets .entry))) (now (text .entry))) (encode (partitions (now (starts .entry)) (now (ends .entry)))) ⌝ }
 {
-    encode_parsed(
-        starts,
-        ends,
-        parse_stamp(&moduli[..n], &offsets[..n], text),
-    )
+    encode_parsed(starts, ends, parse_stamp(&moduli[..n], &offsets[..n], text))
 }
 
 fn parse_text(moduli: &[u64], offsets: &[u64], text: &[u8]) -> ReadAnswer
