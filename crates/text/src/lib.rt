@@ -22,6 +22,8 @@ use rules::Layout;
 use rules::ReadAnswer;
 use rules::Reading;
 use rules::Refusal;
+use tables::Acceptance;
+use tables::accept_stamps;
 
 // A stamp as it is written: the partition's number where one stands in front, and the count of its clock text.
 pub enum ParsedStamp {
@@ -47,6 +49,17 @@ fn text_in<'a>(moduli: &'a [u64], offsets: &'a [u64], n: usize, text: &[u8]) -> 
     ensures { λ r. ⌜ readAnswer r ≡ parseText (take n (now (moduli .entry))) (take n (now (offsets .entry))) (now (text .entry)) ⌝ }
 {
     parse_text(&moduli[..n], &offsets[..n], text)
+}
+
+// Text with a partition in front or without one.
+pub fn read_stamp(layout: Layout, starts: &[u64], ends: &[u64], text: &[u8]) -> ReadAnswer
+    ensures { λ r. ⌜ readAnswer r ≡ readStamp layout (partitions (now (starts .entry)) (now (ends .entry))) (now (text .entry)) ⌝ }
+{
+    let n = layout.n;
+    match accept_stamps(measure(layout), starts, ends) {
+        Acceptance::Accepted(_) => stamp_in(&layout.moduli, &layout.offsets, n, starts, ends, text),
+        Acceptance::Refused(k) => ReadAnswer::Refused(k),
+    }
 }
 
 // A stamp under such a layout and partitions that are accepted.

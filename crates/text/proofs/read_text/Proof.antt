@@ -1,10 +1,10 @@
 use borrow.Author.Needs.{needs}
-use Rattle.text.proofs.Calls.{some-fields, few-fields, layout-of, text-refused, text-accepted}
+use Rattle.text.proofs.Calls.{some-fields, few-fields, text-layout, text-refused, text-accepted}
 use Rattle.text.proofs.read_text.Statement.{statement}
 use Rattle.text.proofs.read_text.Tie as tie
 
 text-in-requires : tie.Need-text-in-requires
-text-in-requires c κs = (search (some-fields, layout-of, needs), search (few-fields, layout-of, needs), search (few-fields, layout-of, needs))
+text-in-requires c κs = (search (some-fields, text-layout, needs), search (few-fields, text-layout, needs), search (few-fields, text-layout, needs))
 
 returns : tie.Need-returns
 returns c = search (text-accepted, needs)
