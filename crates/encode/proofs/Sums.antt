@@ -13,15 +13,14 @@ use borrow.Author.Tests.{leb-true, le-leb, lt-leb}
 use Rattle.base.proofs.Tests.{and-first, and-second, and-out-second}
 use Rattle.base.proofs.Scans.{first-is, first-none, sum-start, sum-next, sum-up}
 use Rattle.rules.specs.Limits.{largestTotal}
-use Rattle.rules.specs.declared.Layout.{Layout}
 use Rattle.rules.specs.Partitions.{Partitions, partitions, lengthOf, lengthsBefore, totalOf}
 use Rattle.rules.specs.Facts.{PartitionsFacts}
-use Rattle.rules.specs.Answer.{answer, refused, unless}
+use Rattle.rules.specs.Answer.{answer, refuse, unless}
 use Rattle.rules.specs.Stamp.{holds, encodedIn, encodeNamed, encodeFound, encodeFirst}
 use Rattle.encode.specs.Listed.{Listed}
 
-pub listed : (l : Layout) (p : Partitions) → PartitionsFacts l p → Listed p
-listed l p f = record { one-length = f .one-length; few = f .few; ordered = λ i h. omega (arith, f .each i h .ordered); total = f .total }
+pub listed : (P : ℕ) (p : Partitions) → PartitionsFacts P p → Listed p
+listed P p f = record { one-length = f .one-length; few = f .few; ordered = λ i h. omega (arith, f .each i h .ordered); total = f .total }
 
 module _ (ss es : List ℕ) where
   abbrev p : Partitions
@@ -75,7 +74,7 @@ module _ (ss es : List ℕ) where
       passed-here h y =
           rw (first-is (holds p count) (length ss) i (record { below = h; holds = sym e ∙ y; before = w .none-holds }), ← (w .sum))
 
-    pub passed-all : (i b : ℕ) → Passed count i b → length ss ≤ i → refused 11 ≡ encodeFirst p count
+    pub passed-all : (i b : ℕ) → Passed count i b → length ss ≤ i → refuse 11 ≡ encodeFirst p count
     unfolding encodeFirst encodeFound
     passed-all i b w h = rw (first-none (holds p count) (length ss) (λ j l. w .none-holds j (omega arith)))
 
@@ -87,16 +86,16 @@ module _ (ss es : List ℕ) where
 
   -- the ways out for a partition that is named
   module _ (number count : ℕ) where
-    pub zero-named : number < 1 → refused 10 ≡ encodeNamed p number count
+    pub zero-named : number < 1 → refuse 10 ≡ encodeNamed p number count
     unfolding encodeNamed unless
     zero-named h = rw (lt-leb 1 number h)
 
-    pub past-named : length ss < number → refused 10 ≡ encodeNamed p number count
+    pub past-named : length ss < number → refuse 10 ≡ encodeNamed p number count
     unfolding encodeNamed unless
     past-named h = rw (and-out-second (leb 1 number) (lt-leb number (length ss) h))
 
     module _ (low : 1 ≤ number) (high : number ≤ length ss) (t : Bool) (e : t ≡ (leb (getD ss (number - 1) 0) count && leb count (getD es (number - 1) 0))) where
-      pub named-outside : t ≡ false → refused 11 ≡ encodeNamed p number count
+      pub named-outside : t ≡ false → refuse 11 ≡ encodeNamed p number count
       unfolding encodeNamed unless holds
       named-outside n = rw (le-leb 1 number low, le-leb number (length ss) high, sym e ∙ n)
 

@@ -1,2 +1,3 @@
--- The facts of partitions that their encoded counts go by.
+-- The facts of partitions that their encoded counts go by, and what encoding answers.
 pub mod Listed
+pub mod Encoded

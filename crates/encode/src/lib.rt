@@ -5,15 +5,21 @@ ghost use Prim.Native.Nat.{_≤_};
 ghost use lib.Dec.{leb};
 ghost use lib.ListN.{length};
 ghost use Rattle.rules.specs.Partitions.{partitions, lengthsBefore};
-ghost use Rattle.rules.specs.Answer.{countAnswer};
 ghost use Rattle.rules.specs.Stamp.{encodeNamed, encodeFirst};
 ghost use Rattle.encode.specs.Listed.{Listed};
-use rules::CountAnswer;
+ghost use Rattle.encode.specs.Encoded.{encodedAnswer};
+use rules::Refusal;
+
+// An encoded count.
+pub enum Encoded {
+    Count(u64),
+    Refused(Refusal),
+}
 
 // In the first partition that holds the count.
-pub fn encode_first(starts: &[u64], ends: &[u64], count: u64) -> CountAnswer
+pub fn encode_first(starts: &[u64], ends: &[u64], count: u64) -> Encoded
     requires { ⌜ Listed (partitions (now starts) (now ends)) ⌝ }
-    ensures { λ r. ⌜ countAnswer r ≡ encodeFirst (partitions (now (starts .entry)) (now (ends .entry))) count ⌝ }
+    ensures { λ r. ⌜ encodedAnswer r ≡ encodeFirst (partitions (now (starts .entry)) (now (ends .entry))) count ⌝ }
 {
     let mut before: u64 = 0;
     let mut i = 0;
@@ -21,32 +27,32 @@ pub fn encode_first(starts: &[u64], ends: &[u64], count: u64) -> CountAnswer
         let start = starts[i];
         let end = ends[i];
         if is_within(start, end, count) {
-            return CountAnswer::Count(before + (count - start));
+            return Encoded::Count(before + (count - start));
         }
         before += end - start;
         i += 1;
     }
-    CountAnswer::Refused(refusals::OUTSIDE_PARTITION)
+    Encoded::Refused(refusals::OUTSIDE_PARTITION)
 }
 
 // In the partition of the number given; partitions are numbered from 1.
-pub fn encode_named(starts: &[u64], ends: &[u64], number: u64, count: u64) -> CountAnswer
+pub fn encode_named(starts: &[u64], ends: &[u64], number: u64, count: u64) -> Encoded
     requires { ⌜ Listed (partitions (now starts) (now ends)) ⌝ }
-    ensures { λ r. ⌜ countAnswer r ≡ encodeNamed (partitions (now (starts .entry)) (now (ends .entry))) number count ⌝ }
+    ensures { λ r. ⌜ encodedAnswer r ≡ encodeNamed (partitions (now (starts .entry)) (now (ends .entry))) number count ⌝ }
 {
     if number < 1 {
-        return CountAnswer::Refused(refusals::NO_SUCH_PARTITION);
+        return Encoded::Refused(refusals::NO_SUCH_PARTITION);
     }
     if (starts.len() as u64) < number {
-        return CountAnswer::Refused(refusals::NO_SUCH_PARTITION);
+        return Encoded::Refused(refusals::NO_SUCH_PARTITION);
     }
     let i = (number - 1) as usize;
     let start = starts[i];
     if is_within(start, ends[i], count) {
         let before = lengths_before(starts, ends, i);
-        return CountAnswer::Count(before + (count - start));
+        return Encoded::Count(before + (count - start));
     }
-    CountAnswer::Refused(refusals::OUTSIDE_PARTITION)
+    Encoded::Refused(refusals::OUTSIDE_PARTITION)
 }
 
 // Both included.

@@ -10,12 +10,14 @@ use native.Mathlib.Omega.{arith}
 use Rattle.base.proofs.Tests.{and-out-first, and-out-second, not-both}
 use Rattle.rules.specs.Text.{Field, isPresent, valueOf, fieldsOf}
 use Rattle.rules.specs.Stamp.{onePresent, firstValue}
+use Rattle.fields.specs.declared.Fault.{Fault}
+use Rattle.fields.specs.declared.Fault.the-variants as Faults
 use Rattle.fields.specs.declared.Pass.{Pass}
-use Rattle.fields.specs.Pass.{fieldCap, begun, alone, faultWith, next}
+use Rattle.fields.specs.Pass.{fieldCap, refusing, faultless, begun, alone, faultWith, next}
 use Rattle.fields.proofs.Over.{filled, ended, run, over, split}
 
-abbrev first : ℕ → ℕ → Bool
-first k fault = eqb k 0 && eqb fault 0
+abbrev first : ℕ → Fault → Bool
+first k fault = eqb k 0 && faultless fault
 
 module _ (ms os : List ℕ) where
   next-later : (p : Pass) → first (next ms os p .field) (next ms os p .fault) ≡ false
@@ -26,23 +28,23 @@ module _ (ms os : List ℕ) where
       either true a b x y = x
       either false a b x y = y
 
-      seven : (k : ℕ) → first k 7 ≡ false
+      seven : (k : ℕ) → first k (refusing 7) ≡ false
       seven k = and-out-second (eqb k 0) refl
 
-      later : (k fault : ℕ) → first (k + 1) fault ≡ false
-      later k fault = and-out-first (eqb fault 0) (ne-eqb (k + 1) 0 (λ e. omega arith))
+      later : (k : ℕ) (fault : Fault) → first (k + 1) fault ≡ false
+      later k fault = and-out-first (faultless fault) (ne-eqb (k + 1) 0 (λ e. omega arith))
 
-  stays : (fs : List Field) (k sum fault : ℕ) (f : Field) → first k fault ≡ false → alone (over ms os k sum fault f fs) ≡ false
+  stays : (fs : List Field) (k sum : ℕ) (fault : Fault) (f : Field) → first k fault ≡ false → alone (over ms os k sum fault f fs) ≡ false
   unfolding over alone
   stays [] k sum fault f h = and-out-first (isPresent f) h
   stays (g ∷ fs) k sum fault f h = let q = next ms os (filled k sum fault f) in stays fs (q .field) (q .sum) (q .fault) g (next-later (filled k sum fault f))
 
-  one : (f : Field) (fs : List Field) → alone (over ms os 0 0 0 f fs) ≡ onePresent (f ∷ fs)
+  one : (f : Field) (fs : List Field) → alone (over ms os 0 0 Faults.None f fs) ≡ onePresent (f ∷ fs)
   unfolding over alone
   one f [] = refl
-  one f (g ∷ fs) = let q = next ms os (filled 0 0 0 f) in stays fs (q .field) (q .sum) (q .fault) g (next-later (filled 0 0 0 f))
+  one f (g ∷ fs) = let q = next ms os (filled 0 0 Faults.None f) in stays fs (q .field) (q .sum) (q .fault) g (next-later (filled 0 0 Faults.None f))
 
-  value : (f : Field) (fs : List Field) → onePresent (f ∷ fs) ≡ true → over ms os 0 0 0 f fs .value ≡ min (valueOf f) fieldCap
+  value : (f : Field) (fs : List Field) → onePresent (f ∷ fs) ≡ true → over ms os 0 0 Faults.None f fs .value ≡ min (valueOf f) fieldCap
   unfolding over
   value f [] h = refl
   value f (g ∷ fs) h = absurd (not-both h refl)

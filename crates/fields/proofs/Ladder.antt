@@ -4,29 +4,28 @@ use mathlib.Core.Path.{_≡_, refl, sym, ap, _∙_}
 use mathlib.Core.Bool.{Bool, true, false, cond, _||_}
 use mathlib.Core.List.{List, [], _∷_}
 use lib.Dec.{leb, ltb, eqb}
-use lib.ListN.{length, getD, take, drop}
-use lib.Seq.{take-all, take-length, take-take, length-take-le}
+use lib.ListN.{length, getD, drop}
 use borrow.Author.Tests.{le-leb, lt-leb, leb-true, leb-false, lt-ltb, eqb-true, eqb-false}
-use native.Mathlib.Nat.{add-mul, mul-assoc, zero-mul, zero-add, add-zero, le-refl}
+use native.Mathlib.Nat.{add-mul, mul-assoc, zero-mul, zero-add, add-zero}
 use native.Mathlib.Omega.{arith}
 use Rattle.base.specs.Scans.{product}
 use Rattle.base.proofs.Lists.{drop-next}
 use Rattle.base.proofs.Tests.{by-test, or-second}
 use Rattle.rules.specs.Limits.{largestField, largestCount}
-use Rattle.rules.specs.Answer.{Answer, answer, refused, unless}
-use Rattle.rules.specs.declared.Layout.{Layout}
-use Rattle.rules.specs.Layout.{moduliOf, offsetsOf}
+use Rattle.rules.specs.declared.Reading.{Reading}
+use Rattle.rules.specs.Answer.{Answer, answer, refuse, unless, reading}
 use Rattle.rules.specs.Text.{Field, isPresent, valueOf, ticksOf, sumOf, firstPresent, notAbove, notBelow, eachField, fieldsOf, fieldsCount}
+use Rattle.fields.specs.declared.Fault.{Fault}
+use Rattle.fields.specs.declared.Fault.the-variants as Faults
 use Rattle.fields.specs.declared.Pass.{Pass}
-use Rattle.fields.specs.Pass.{fieldCap, sumCap, valueFault, faultIn, faultWith, ticksIn, sumWith, begun, next, sumIn, total}
-use Rattle.fields.specs.Clock.{clock}
+use Rattle.fields.specs.Pass.{fieldCap, sumCap, refusing, earlier, orFault, valueFault, faultIn, faultWith, ticksIn, sumWith, begun, next, sumIn, total}
 use Rattle.fields.proofs.Caps.{cap-mul-add, cap-mul}
 use Rattle.fields.proofs.Steps.{next-none, next-one}
 use Rattle.fields.proofs.Over.{filled, ended, run, over, split}
 
 -- the sum's 9, and the count
-abbrev final : ℕ → Answer ℕ
-final t = unless 9 (leb t largestCount) (answer t)
+abbrev final : ℕ → Answer Reading
+final t = unless 9 (leb t largestCount) (answer (reading t))
 
 final-capped : (t : ℕ) → final (min t sumCap) ≡ final t
 unfolding unless
@@ -35,16 +34,16 @@ final-capped t =
     (λ y. let e : min t sumCap ≡ t = omega (arith, leb-true t largestCount y) in rw e)
     (λ n. let e : min t sumCap ≡ sumCap = omega (arith, leb-false t largestCount n) in rw (e, n))
 
-ticks-exact : (k sum fault o m : ℕ) (f : Field) → notAbove f ≡ true → ticksIn (filled k sum fault f) o * m ≡ ticksOf f o m
+ticks-exact : (k sum : ℕ) (fault : Fault) (o m : ℕ) (f : Field) → notAbove f ≡ true → ticksIn (filled k sum fault f) o * m ≡ ticksOf f o m
 unfolding notAbove ticksIn ticksOf
 ticks-exact k sum fault o m [] h = zero-mul m
 ticks-exact k sum fault o m (d ∷ ds) h = let e : min (valueOf (d ∷ ds)) fieldCap ≡ valueOf (d ∷ ds) = omega (arith, leb-true (valueOf (d ∷ ds)) largestField h) in rw e
 
 -- an empty field passes where it is not the first; another is above, below its offset, or right
-fault-in : (k sum fault o : ℕ) (f : Field) (x y : Answer ℕ) → (notAbove f ≡ true → x ≡ y) →
+fault-in : (k sum : ℕ) (fault : Fault) (o : ℕ) (f : Field) (x y : Answer Reading) → (notAbove f ≡ true → x ≡ y) →
     unless 6 (ltb 0 k || isPresent f) (unless 9 (notAbove f) (unless 8 (notBelow f o) x))
-    ≡ unless (faultIn (filled k sum fault f) o) (eqb (faultIn (filled k sum fault f) o) 0) y
-unfolding faultIn unless notAbove notBelow valueFault
+    ≡ orFault (faultIn (filled k sum fault f) o) y
+unfolding faultIn orFault unless notAbove notBelow valueFault
 fault-in k sum fault o [] x y h =
     by-test (eqb k 0)
     (λ z. rw (eqb-true k 0 z))
@@ -63,40 +62,40 @@ fault-in k sum fault o (d ∷ ds) x y h =
 gathered : (a m t r x y : ℕ) → t * r ≡ x → a * (m * r) + (x + y) ≡ (a * m + t) * r + y
 gathered a m t r x y e = omega (arith, add-mul (a * m) t r, mul-assoc a m r)
 
-fault-with : (k sum fault o : ℕ) (f : Field) (x y : Answer ℕ) → (notAbove f ≡ true → x ≡ y) →
-    unless fault (eqb fault 0) (unless 6 (ltb 0 k || isPresent f) (unless 9 (notAbove f) (unless 8 (notBelow f o) x)))
-    ≡ unless (faultWith (filled k sum fault f) o) (eqb (faultWith (filled k sum fault f) o) 0) y
-unfolding faultWith unless
-fault-with k sum fault o f x y h =
-    by-test (eqb fault 0) (λ z. rw z (fault-in k sum fault o f x y h)) (λ n. rw (n, n))
+fault-with : (k sum : ℕ) (fault : Fault) (o : ℕ) (f : Field) (x y : Answer Reading) → (notAbove f ≡ true → x ≡ y) →
+    orFault fault (unless 6 (ltb 0 k || isPresent f) (unless 9 (notAbove f) (unless 8 (notBelow f o) x)))
+    ≡ orFault (faultWith (filled k sum fault f) o) y
+unfolding faultWith earlier orFault
+fault-with k sum Faults.None o f x y h = fault-in k sum Faults.None o f x y h
+fault-with k sum (Faults.Refused n) o f x y h = refl
 
 module _ (ms os : List ℕ) (e : length os ≡ length ms) where
   -- what is left to answer at the field k, after the ticks acc and the first fault
-  rest : ℕ → ℕ → ℕ → List Field → Answer ℕ
+  rest : ℕ → Fault → ℕ → List Field → Answer Reading
   rest k fault acc fs =
       unless 7 (leb (k + length fs) (length ms))
-      (unless fault (eqb fault 0)
+      (orFault fault
       (unless 6 (ltb 0 k || firstPresent fs)
       (eachField fs (drop k os)
       (final (acc * product (drop k ms) + sumOf fs (drop k ms) (drop k os))))))
 
   -- 7 stays
-  seven : (k sum : ℕ) (f : Field) → next ms os (filled k sum 7 f) .fault ≡ 7
-  unfolding next faultWith
+  seven : (k sum : ℕ) (f : Field) → next ms os (filled k sum (refusing 7) f) .fault ≡ refusing 7
+  unfolding next faultWith earlier
   seven k sum f = either (leb (length ms) (k + 1)) _ _ refl refl
     where
-      either : (t : Bool) (a b : Pass) → a .fault ≡ 7 → b .fault ≡ 7 → (cond t a b) .fault ≡ 7
+      either : (t : Bool) (a b : Pass) → a .fault ≡ refusing 7 → b .fault ≡ refusing 7 → (cond t a b) .fault ≡ refusing 7
       either true a b x y = x
       either false a b x y = y
 
-  stuck : (fs : List Field) (k sum : ℕ) (f : Field) → total ms os (over ms os k sum 7 f fs) ≡ refused 7
-  unfolding total over faultWith unless
+  stuck : (fs : List Field) (k sum : ℕ) (f : Field) → total ms os (over ms os k sum (refusing 7) f fs) ≡ refuse 7
+  unfolding total over faultWith earlier orFault
   stuck [] k sum f = refl
   stuck (g ∷ fs) k sum f =
-      let q = next ms os (filled k sum 7 f) in
+      let q = next ms os (filled k sum (refusing 7) f) in
       ap (λ x. total ms os (over ms os (q .field) (q .sum) x g fs)) (seven k sum f) ∙ stuck fs (q .field) (q .sum) g
 
-  module _ (k sum fault acc : ℕ) (f : Field) (h : k < length ms) (c : sum ≡ min acc sumCap) where
+  module _ (k sum : ℕ) (fault : Fault) (acc : ℕ) (f : Field) (h : k < length ms) (c : sum ≡ min acc sumCap) where
     abbrev m : ℕ
     m = getD ms k 0
 
@@ -117,19 +116,19 @@ module _ (ms os : List ℕ) (e : length os ≡ length ms) where
     unfolding product sumOf
     sums fs n = rw (drop-next ms k 0 h, drop-next os k 0 (omega arith)) (gathered acc m (ticksIn p o) (product (drop (k + 1) ms)) _ (sumOf fs (drop (k + 1) ms) (drop (k + 1) os)) (ticks-exact k sum fault o _ f n))
 
-    each-next : (fs : List Field) (x : Answer ℕ) → eachField (f ∷ fs) (drop k os) x ≡ unless 9 (notAbove f) (unless 8 (notBelow f o) (eachField fs (drop (k + 1) os) x))
+    each-next : (fs : List Field) (x : Answer Reading) → eachField (f ∷ fs) (drop k os) x ≡ unless 9 (notAbove f) (unless 8 (notBelow f o) (eachField fs (drop (k + 1) os) x))
     unfolding eachField
     each-next fs x = rw (drop-next os k 0 (omega arith))
 
     -- closing the field f
     rest-next : (fs : List Field) → rest k fault acc (f ∷ fs) ≡
         unless 7 (leb (k + length (f ∷ fs)) (length ms))
-        (unless (faultWith p o) (eqb (faultWith p o) 0)
+        (orFault (faultWith p o)
         (eachField fs (drop (k + 1) os)
         (final (acc′ * product (drop (k + 1) ms) + sumOf fs (drop (k + 1) ms) (drop (k + 1) os)))))
     unfolding rest eachField
     rest-next fs =
-        ap (λ x. unless 7 (leb (k + length (f ∷ fs)) (length ms)) (unless fault (eqb fault 0) (unless 6 (ltb 0 k || isPresent f) x)))
+        ap (λ x. unless 7 (leb (k + length (f ∷ fs)) (length ms)) (orFault fault (unless 6 (ltb 0 k || isPresent f) x)))
         (each-next fs (final (acc * product (drop k ms) + sumOf (f ∷ fs) (drop k ms) (drop k os))))
         ∙ ap (unless 7 (leb (k + length (f ∷ fs)) (length ms)))
         (fault-with k sum fault o f _ _ (λ n. ap (λ x. eachField fs (drop (k + 1) os) (final x)) (sums fs n)))
@@ -145,9 +144,9 @@ module _ (ms os : List ℕ) (e : length os ≡ length ms) where
         sym
         (rest-next []
         ∙ rw (le-leb (k + 1) (length ms) (omega arith), add-zero)
-        (ap (unless (faultWith p o) (eqb (faultWith p o) 0)) (sym (final-capped t) ∙ ap final (sym sum-in))))
+        (ap (orFault (faultWith p o)) (sym (final-capped t) ∙ ap final (sym sum-in))))
 
-    too-many : (g : Field) (fs : List Field) → length ms ≤ k + 1 → rest k fault acc (f ∷ g ∷ fs) ≡ refused 7
+    too-many : (g : Field) (fs : List Field) → length ms ≤ k + 1 → rest k fault acc (f ∷ g ∷ fs) ≡ refuse 7
     unfolding rest unless
     too-many g fs l = rw (lt-leb (k + length (f ∷ g ∷ fs)) (length ms) (omega arith))
 
@@ -157,7 +156,7 @@ module _ (ms os : List ℕ) (e : length os ≡ length ms) where
         let same : k + length (f ∷ g ∷ fs) ≡ k + 1 + length (g ∷ fs) = omega arith in
         sym (rest-next (g ∷ fs) ∙ rw (same, lt-ltb 0 (k + 1) (omega arith)))
 
-  counts : (fs : List Field) (k sum fault acc : ℕ) (f : Field) → k < length ms → sum ≡ min acc sumCap → total ms os (over ms os k sum fault f fs) ≡ rest k fault acc (f ∷ fs)
+  counts : (fs : List Field) (k sum : ℕ) (fault : Fault) (acc : ℕ) (f : Field) → k < length ms → sum ≡ min acc sumCap → total ms os (over ms os k sum fault f fs) ≡ rest k fault acc (f ∷ fs)
   unfolding over
   counts [] k sum fault acc f h c = ends k sum fault acc f h c
   counts (g ∷ fs) k sum fault acc f h c =
@@ -172,29 +171,20 @@ module _ (ms os : List ℕ) (e : length os ≡ length ms) where
       ∙ counts fs (k + 1) _ _ _ g l (sum-with k sum fault acc f h c)
       ∙ goes-on k sum fault acc f h c g fs)
 
-  offsets : take (length ms) os ≡ os
-  offsets = take-all (length ms) os (omega arith)
-
-  whole : (fs : List Field) → rest 0 0 0 fs ≡ fieldsCount (clock ms os) fs
-  unfolding rest fieldsCount unless
-  whole fs = rw (zero-add, zero-mul, zero-add, take-length ms, offsets)
+  whole : (fs : List Field) → rest 0 Faults.None 0 fs ≡ fieldsCount ms os fs
+  unfolding rest fieldsCount orFault
+  whole fs = rw (zero-add, zero-mul, zero-add)
 
   total-ended : (q : Pass) → total ms os q ≡ total ms os (ended q)
   unfolding total sumIn sumWith faultWith ticksIn faultIn
   total-ended q = refl
 
   -- The pass over a text ends in the count of its fields.
-  pub counted : (s : List ℕ) → 1 ≤ length ms → total ms os (run ms os begun s) ≡ fieldsCount (clock ms os) (fieldsOf s)
+  pub counted : (s : List ℕ) → 1 ≤ length ms → total ms os (run ms os begun s) ≡ fieldsCount ms os (fieldsOf s)
   counted s n =
       let w = split ms os s in
       total-ended (run ms os begun s)
       ∙ ap (total ms os) (w .passed)
-      ∙ counts (w .rest) 0 0 0 0 (w .first) n refl
+      ∙ counts (w .rest) 0 0 Faults.None 0 (w .first) n refl
       ∙ whole (w .first ∷ w .rest)
-      ∙ ap (fieldsCount (clock ms os)) (sym (w .fields))
-
--- Slots after the n-th are not looked at.
-module _ (l : Layout) (h : l .n ≤ length (l .moduli)) where
-  pub same-count : (fs : List Field) → fieldsCount (clock (moduliOf l) (offsetsOf l)) fs ≡ fieldsCount l fs
-  unfolding fieldsCount
-  same-count fs = rw (length-take-le (l .n) (l .moduli) h, take-take (l .n) (l .n) (l .moduli) (le-refl _), take-take (l .n) (l .n) (l .offsets) (le-refl _))
+      ∙ ap (fieldsCount ms os) (sym (w .fields))

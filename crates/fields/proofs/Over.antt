@@ -29,13 +29,15 @@ use Rattle.rules.specs.Text.{
   valueFrom,
   valueOf,
 }
+use Rattle.fields.specs.declared.Fault.{Fault}
+use Rattle.fields.specs.declared.Fault.the-variants as Faults
 use Rattle.fields.specs.declared.Pass.{Pass}
 use Rattle.fields.specs.Pass as pass
 use Rattle.fields.specs.Pass.{fieldCap, sumWith, faultWith, ticksIn, faultIn, begun, digitIn, withBlank, fresh, next, step}
 use Rattle.fields.proofs.Steps.{cond-yes, cond-no, after-gap, no-gap}
 use Rattle.fields.proofs.Caps.{cap-mul-add}
 
-abbrev pub passOf : ℕ → Bool → Bool → ℕ → ℕ → ℕ → Pass
+abbrev pub passOf : ℕ → Bool → Bool → ℕ → ℕ → Fault → Pass
 passOf k p g v sum fault = record { field = k; present = p; gap = g; value = v; sum = sum; fault = fault }
 
 -- the flags of the pass, by what stands before the next byte
@@ -50,7 +52,7 @@ gapIn number = false
 gapIn gap = true
 
 -- the pass at the field f, of the number k
-abbrev pub filled : ℕ → ℕ → ℕ → Field → Pass
+abbrev pub filled : ℕ → ℕ → Fault → Field → Pass
 filled k sum fault f = passOf k (isPresent f) false (min (valueOf f) fieldCap) sum fault
 
 -- blanks at the end do not matter
@@ -113,14 +115,14 @@ module _ (ms os : List ℕ) where
   run p (b ∷ s) = run (step ms os p b) s
 
   -- over the field f, of the number k, and the fields after it
-  unfoldable pub over : ℕ → ℕ → ℕ → Field → List Field → Pass
+  unfoldable pub over : ℕ → ℕ → Fault → Field → List Field → Pass
   over k sum fault f [] = filled k sum fault f
   over k sum fault f (g ∷ fs) =
       let p = next ms os (filled k sum fault f) in
       over (p .field) (p .sum) (p .fault) g fs
 
   -- over fields the first of which begins with the digits ds
-  from : ℕ → ℕ → ℕ → Field → List Field → Pass
+  from : ℕ → ℕ → Fault → Field → List Field → Pass
   from k sum fault ds [] = over k sum fault ds []
   from k sum fault ds (f ∷ fs) = over k sum fault (ds ++ f) fs
 
@@ -135,17 +137,17 @@ module _ (ms os : List ℕ) where
   -- what the pass gives for the bytes s, after the digits ds of the field k
   abbrev Read : List ℕ → Type 0
   Read s =
-      (w : Before) (k v sum fault : ℕ) (ds : Field) →
+      (w : Before) (k v sum : ℕ) (fault : Fault) (ds : Field) →
       presentIn w ≡ isPresent ds →
       v ≡ min (valueOf ds) fieldCap →
       ended (run (passOf k (presentIn w) (gapIn w) v sum fault) s) ≡ from k sum fault ds (between (symbolsFrom w s))
 
   -- a mark closes the field
-  next-is : (g : Bool) (p : Bool) (k v sum fault : ℕ) (ds : Field) → p ≡ isPresent ds → v ≡ min (valueOf ds) fieldCap → next ms os (passOf k p g v sum fault) ≡ next ms os (filled k sum fault ds)
+  next-is : (g : Bool) (p : Bool) (k v sum : ℕ) (fault : Fault) (ds : Field) → p ≡ isPresent ds → v ≡ min (valueOf ds) fieldCap → next ms os (passOf k p g v sum fault) ≡ next ms os (filled k sum fault ds)
   unfolding next sumWith faultWith ticksIn faultIn
   next-is g p k v sum fault ds e f = rw (e, f)
 
-  closes : (k sum fault : ℕ) (ds : Field) (fs : List Field) → from k sum fault ds ([] ∷ fs) ≡ over k sum fault ds fs
+  closes : (k sum : ℕ) (fault : Fault) (ds : Field) (fs : List Field) → from k sum fault ds ([] ∷ fs) ≡ over k sum fault ds fs
   unfolding from
   closes k sum fault ds fs = rw append-nil
 
@@ -153,12 +155,12 @@ module _ (ms os : List ℕ) where
   unfolding run symbolsFrom between from over
   reads-end w k v sum fault ds e f = rw (append-nil, e, f)
 
-  from-digit : (k sum fault : ℕ) (ds : Field) (d : ℕ) (fs : List Field) → from k sum fault ds (withDigit d fs) ≡ from k sum fault (ds ++ (d ∷ [])) fs
+  from-digit : (k sum : ℕ) (fault : Fault) (ds : Field) (d : ℕ) (fs : List Field) → from k sum fault ds (withDigit d fs) ≡ from k sum fault (ds ++ (d ∷ [])) fs
   unfolding from withDigit
   from-digit k sum fault ds d [] = refl
   from-digit k sum fault ds d (f ∷ fs) = rw append-assoc
 
-  module _ (k sum fault : ℕ) (ds : Field) where
+  module _ (k sum : ℕ) (fault : Fault) (ds : Field) where
     abbrev then : Pass
     then = next ms os (filled k sum fault ds)
 
@@ -177,7 +179,7 @@ module _ (ms os : List ℕ) where
 
   module _ (s : List ℕ) (ih : Read s) (b : ℕ) where
     -- the pass after b, and the symbols that b ends
-    goes : (p q : Pass) (k sum fault : ℕ) (ds : Field) (w : Before) (x : List Symbol) (r : Pass) →
+    goes : (p q : Pass) (k sum : ℕ) (fault : Fault) (ds : Field) (w : Before) (x : List Symbol) (r : Pass) →
         step ms os p b ≡ q →
         symbolsFrom w (b ∷ s) ≡ x →
         ended (run q s) ≡ r →
@@ -187,7 +189,7 @@ module _ (ms os : List ℕ) where
     goes p q k sum fault ds w x r e f g h = ap (λ (a : Pass). ended (run a s)) e ∙ g ∙ h ∙ ap (λ (a : List Symbol). from k sum fault ds (between a)) (sym f)
 
     module _ (t : isDigit b ≡ true) where
-      same-field : (w : Before) (k v sum fault : ℕ) (ds : Field) → gapIn w ≡ false → digitAfter w (b - 48) ≡ (digit (b - 48) ∷ []) → v ≡ min (valueOf ds) fieldCap →
+      same-field : (w : Before) (k v sum : ℕ) (fault : Fault) (ds : Field) → gapIn w ≡ false → digitAfter w (b - 48) ≡ (digit (b - 48) ∷ []) → v ≡ min (valueOf ds) fieldCap →
           ended (run (passOf k (presentIn w) (gapIn w) v sum fault) (b ∷ s)) ≡ from k sum fault ds (between (symbolsFrom w (b ∷ s)))
       unfolding between presentIn gapIn
       same-field w k v sum fault ds g a f =
@@ -243,10 +245,10 @@ module _ (ms os : List ℕ) where
     pub first : Field
     pub rest : List Field
     pub fields : fieldsOf s ≡ (first ∷ rest)
-    pub passed : ended (run begun s) ≡ over 0 0 0 first rest
+    pub passed : ended (run begun s) ≡ over 0 0 Faults.None first rest
 
   pub split : (s : List ℕ) → Split s
   unfolding fieldsOf presentIn gapIn from valueOf valueFrom
   split s =
       let r = between-some (symbolsFrom edge s) in
-      record { first = r .0; rest = r .1; fields = r .2; passed = reads-all s edge 0 0 0 0 [] refl refl ∙ ap (from 0 0 0 []) (r .2) }
+      record { first = r .0; rest = r .1; fields = r .2; passed = reads-all s edge 0 0 0 Faults.None [] refl refl ∙ ap (from 0 0 Faults.None []) (r .2) }

@@ -11,11 +11,14 @@ use Rattle.base.proofs.Lists.{drop-next}
 use Rattle.base.proofs.Tests.{by-test, and-first, or-first, or-second, or-neither}
 use Rattle.base.specs.Scans.{product}
 use Rattle.rules.specs.Limits.{largestCount}
-use Rattle.rules.specs.Answer.{answer, refused, unless}
+use Rattle.rules.specs.declared.Refusal.{Refusal}
+use Rattle.rules.specs.Answer.{answer, refused, refuse, unless, reading}
 use Rattle.rules.specs.Text.{isDigit, isMark, isBlank, isAllowed}
+use Rattle.fields.specs.declared.Fault.{Fault}
+use Rattle.fields.specs.declared.Fault.the-variants as Faults
 use Rattle.fields.specs.declared.Pass.{Pass}
 use Rattle.fields.specs.declared.Scanned.{Scanned}
-use Rattle.fields.specs.Pass.{sumCap, begun, sumWith, faultWith, digitIn, withBlank, fresh, next, withDigit, step, scanFrom, sumIn, total}
+use Rattle.fields.specs.Pass.{sumCap, refusing, earlier, orFault, begun, sumWith, faultIn, faultWith, alone, digitIn, withBlank, fresh, next, withDigit, step, scanFrom, sumIn, total}
 
 pub digit-at-least : (b : ℕ) (t : Bool) → t ≡ isDigit b → t ≡ true → 48 ≤ b
 digit-at-least b t e h = leb-true 48 b (and-first (leb 48 b) (leb b 57) (sym e ∙ h))
@@ -31,11 +34,11 @@ module _ {A : Type 0} {b : Bool} (x y : A) where
   cond-no f = rw f
 
 module _ (ms os : List ℕ) where
-  pub next-none : (p r : Pass) → length ms ≤ p .field + 1 → r ≡ fresh (p .field) 0 7 → r ≡ next ms os p
+  pub next-none : (p r : Pass) → length ms ≤ p .field + 1 → r ≡ fresh (p .field) 0 (refusing 7) → r ≡ next ms os p
   unfolding next
   next-none p r h e = rw (le-leb (length ms) (p .field + 1) h) e
 
-  pub next-one : (p r : Pass) (a b : ℕ) → p .field + 1 < length ms → a ≡ sumWith p (getD ms (p .field) 0) (getD os (p .field) 0) → b ≡ faultWith p (getD os (p .field) 0) → r ≡ fresh (p .field + 1) a b → r ≡ next ms os p
+  pub next-one : (p r : Pass) (a : ℕ) (b : Fault) → p .field + 1 < length ms → a ≡ sumWith p (getD ms (p .field) 0) (getD os (p .field) 0) → b ≡ faultWith p (getD os (p .field) 0) → r ≡ fresh (p .field + 1) a b → r ≡ next ms os p
   unfolding next
   next-one p r a b h f g e = rw (lt-leb (length ms) (p .field + 1) h, ← f, ← g) e
 
@@ -100,25 +103,50 @@ module _ (ms os : List ℕ) where
   unfolding scanFrom
   ended s p i w h e = sym (rw (drop-of-length-le s h) at e)
 
+-- the first fault stays
+module _ (p : Pass) (o : ℕ) where
+  pub fault-kept : (k : Refusal) → p .fault ≡ Faults.Refused k → Faults.Refused k ≡ faultWith p o
+  unfolding faultWith earlier
+  fault-kept k e = rw e
+
+  pub fault-here : (f : Fault) → p .fault ≡ Faults.None → f ≡ faultIn p o → f ≡ faultWith p o
+  unfolding faultWith earlier
+  fault-here f e g = g ∙ ap (λ x. earlier x (faultIn p o)) (sym e)
+
+-- one field, and digits in it
+module _ (p : Pass) where
+  pub later-field : (p .field ≡ 0 → ⊥) → false ≡ alone p
+  unfolding alone
+  later-field n = rw (ne-eqb (p .field) 0 n)
+
+  module _ (z : p .field ≡ 0) where
+    pub alone-faulty : (k : Refusal) → p .fault ≡ Faults.Refused k → false ≡ alone p
+    unfolding alone
+    alone-faulty k e = rw (z, e)
+
+    pub alone-faultless : p .fault ≡ Faults.None → p .present ≡ alone p
+    unfolding alone
+    alone-faultless e = rw (z, e)
+
 -- the ways out at the end
 pub sum-capped : (p : Pass) (m o a : ℕ) → a ≡ sumWith p m o → a ≤ sumCap
 unfolding sumWith
 sum-capped p m o a e = omega arith
 
-module _ (ms os : List ℕ) (p : Pass) (k : ℕ) (e : k ≡ faultWith p (getD os (p .field) 0)) where
-  pub total-fault : (k ≡ 0 → ⊥) → refused k ≡ total ms os p
-  unfolding total unless
-  total-fault n = rw (← e, ne-eqb k 0 n)
+module _ (ms os : List ℕ) (p : Pass) (f : Fault) (e : f ≡ faultWith p (getD os (p .field) 0)) where
+  pub total-fault : (k : Refusal) → f ≡ Faults.Refused k → refused k ≡ total ms os p
+  unfolding total orFault
+  total-fault k n = rw (← e, n)
 
-  module _ (z : k ≡ 0) (a t : ℕ) (f : a ≡ sumWith p (getD ms (p .field) 0) (getD os (p .field) 0)) (g : t ≡ min (a * product (drop (p .field + 1) ms)) sumCap) where
+  module _ (z : f ≡ Faults.None) (a t : ℕ) (g : a ≡ sumWith p (getD ms (p .field) 0) (getD os (p .field) 0)) (h : t ≡ min (a * product (drop (p .field + 1) ms)) sumCap) where
     sum-is : t ≡ sumIn ms os p
     unfolding sumIn
-    sum-is = rw f at g
+    sum-is = rw g at h
 
-    pub total-large : largestCount < t → refused 9 ≡ total ms os p
-    unfolding total unless
-    total-large h = rw (← e, z, ← sum-is, lt-leb t largestCount h)
+    pub total-large : largestCount < t → refuse 9 ≡ total ms os p
+    unfolding total unless orFault
+    total-large l = rw (← e, z, ← sum-is, lt-leb t largestCount l)
 
-    pub total-count : t ≤ largestCount → answer t ≡ total ms os p
-    unfolding total unless
-    total-count h = rw (← e, z, ← sum-is, le-leb t largestCount h)
+    pub total-count : t ≤ largestCount → answer (reading t) ≡ total ms os p
+    unfolding total unless orFault
+    total-count l = rw (← e, z, ← sum-is, le-leb t largestCount l)

@@ -7,8 +7,11 @@ use lib.Dec.{leb, eqb}
 use lib.ListN.{length, getD, drop}
 use Rattle.base.specs.Scans.{product}
 use Rattle.rules.specs.Limits.{largestField, largestCount}
-use Rattle.rules.specs.Answer.{Answer, answer, unless}
+use Rattle.rules.specs.declared.Reading.{Reading}
+use Rattle.rules.specs.Answer.{Answer, answer, refused, unless, numbered, reading}
 use Rattle.rules.specs.Text.{isDigit, isMark, isAllowed}
+use Rattle.fields.specs.declared.Fault.{Fault}
+use Rattle.fields.specs.declared.Fault.the-variants as Faults
 use Rattle.fields.specs.declared.Pass.{Pass}
 use Rattle.fields.specs.declared.Scanned.{Scanned}
 
@@ -19,25 +22,43 @@ fieldCap = largestField + 1
 abbrev pub sumCap : ℕ
 sumCap = largestCount + 1
 
+-- refused with the number k
+abbrev pub refusing : ℕ → Fault
+refusing k = Faults.Refused (numbered k)
+
+-- the earlier of two
+unfoldable pub earlier : Fault → Fault → Fault
+earlier Faults.None g = g
+earlier (Faults.Refused k) g = Faults.Refused k
+
+-- a fault is the answer; without one it is what follows
+unfoldable pub orFault : Fault → Answer Reading → Answer Reading
+orFault Faults.None a = a
+orFault (Faults.Refused k) a = refused k
+
+abbrev pub faultless : Fault → Bool
+faultless Faults.None = true
+faultless (Faults.Refused k) = false
+
 -- a field of which no digit was met
-abbrev pub fresh : ℕ → ℕ → ℕ → Pass
+abbrev pub fresh : ℕ → ℕ → Fault → Pass
 fresh k s f = record { field = k; present = false; gap = false; value = 0; sum = s; fault = f }
 
 -- before the first byte
 abbrev pub begun : Pass
-begun = fresh 0 0 0
+begun = fresh 0 0 Faults.None
 
--- what is wrong with a field of the value v and the offset o; 0 for nothing
-unfoldable pub valueFault : ℕ → ℕ → ℕ
-valueFault v o = cond (leb v largestField) (cond (leb o v) 0 8) 9
+-- what is wrong with a field of the value v and the offset o
+unfoldable pub valueFault : ℕ → ℕ → Fault
+valueFault v o = cond (leb v largestField) (cond (leb o v) Faults.None (refusing 8)) (refusing 9)
 
 -- the same of the field at hand
-unfoldable pub faultIn : Pass → ℕ → ℕ
-faultIn p o = cond (p .present) (valueFault (p .value) o) (cond (eqb (p .field) 0) 6 0)
+unfoldable pub faultIn : Pass → ℕ → Fault
+faultIn p o = cond (p .present) (valueFault (p .value) o) (cond (eqb (p .field) 0) (refusing 6) Faults.None)
 
 -- the first fault, the field at hand included
-unfoldable pub faultWith : Pass → ℕ → ℕ
-faultWith p o = cond (eqb (p .fault) 0) (faultIn p o) (p .fault)
+unfoldable pub faultWith : Pass → ℕ → Fault
+faultWith p o = earlier (p .fault) (faultIn p o)
 
 -- the ticks of the field at hand
 unfoldable pub ticksIn : Pass → ℕ → ℕ
@@ -59,14 +80,14 @@ withBlank p =
 
 -- one field so far, and digits in it: a front part that is a number
 unfoldable pub alone : Pass → Bool
-alone p = eqb (p .field) 0 && eqb (p .fault) 0 && p .present
+alone p = eqb (p .field) 0 && faultless (p .fault) && p .present
 
 module _ (ms os : List ℕ) where
   -- a mark: the next field, or 7 where there is none
   unfoldable pub next : Pass → Pass
   next p =
       cond (leb (length ms) (p .field + 1))
-      (fresh (p .field) 0 7)
+      (fresh (p .field) 0 (refusing 7))
       (fresh (p .field + 1) (sumWith p (getD ms (p .field) 0) (getD os (p .field) 0)) (faultWith p (getD os (p .field) 0)))
 
   -- a digit: after a gap it stands in the next field
@@ -86,8 +107,8 @@ module _ (ms os : List ℕ) where
   sumIn p = min (sumWith p (getD ms (p .field) 0) (getD os (p .field) 0) * product (drop (p .field + 1) ms)) sumCap
 
   -- at the end: the first fault, then the sum's 9, and the count
-  unfoldable pub total : Pass → Answer ℕ
+  unfoldable pub total : Pass → Answer Reading
   total p =
-      unless (faultWith p (getD os (p .field) 0)) (eqb (faultWith p (getD os (p .field) 0)) 0)
+      orFault (faultWith p (getD os (p .field) 0))
       (unless 9 (leb (sumIn p) largestCount)
-      (answer (sumIn p)))
+      (answer (reading (sumIn p))))

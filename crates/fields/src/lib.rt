@@ -4,16 +4,24 @@ ghost use Prim.Native.Nat.{_+_, _*_, _-_, _≤_, _<_, min};
 ghost use lib.ListN.{length, drop};
 ghost use Rattle.base.specs.Scans.{product};
 ghost use Rattle.rules.specs.Text.{isDigit, isMark};
-ghost use Rattle.rules.specs.Answer.{countAnswer};
+ghost use Rattle.rules.specs.Answer.{readAnswer};
 ghost use Rattle.fields.specs.Pass.{fieldCap, sumCap, begun, valueFault, faultIn, faultWith, ticksIn, sumWith, fresh, next, digitIn, withDigit, withBlank, alone, scanFrom, total};
-use rules::CountAnswer;
 use rules::Layout;
+use rules::ReadAnswer;
+use rules::Reading;
+use rules::Refusal;
 
 const LARGEST_FIELD: u64 = Layout::LARGEST_P + Layout::LARGEST_OFFSET;
 
 const FIELD_CAP: u64 = LARGEST_FIELD + 1;
 
 const SUM_CAP: u64 = Layout::LARGEST_P + 1;
+
+// What is wrong with the fields of a text.
+pub enum Fault {
+    None,
+    Refused(Refusal),
+}
 
 // What is known after some bytes of a text.
 pub struct Pass {
@@ -25,8 +33,8 @@ pub struct Pass {
     pub value: u64,
     // The ticks of the fields before it, as ticks of the last of them; SUM_CAP as above.
     pub sum: u64,
-    // The first refusal of the fields before it, 0 for none.
-    pub fault: u64,
+    // The first fault of the fields before it.
+    pub fault: Fault,
 }
 
 // A pass up to the place `at`, where the text ends or has a byte that is not allowed.
@@ -41,7 +49,7 @@ pub fn scan(moduli: &[u64], offsets: &[u64], text: &[u8], from: usize) -> Scanne
     ensures { λ r. ⌜ r ≡ scanFrom (now (moduli .entry)) (now (offsets .entry)) begun from (drop from (now (text .entry))) ⌝ }
     ensures { λ r. ⌜ r .pass .field < length (now (moduli .entry)) ⌝ }
 {
-    let mut pass = fresh_field(0, 0, 0);
+    let mut pass = fresh_field(0, 0, Fault::None);
     let mut at = from;
     while at < text.len() {
         let byte = text[at];
@@ -62,21 +70,20 @@ pub fn scan(moduli: &[u64], offsets: &[u64], text: &[u8], from: usize) -> Scanne
 }
 
 // The count of a pass that reached the end of the text.
-pub fn count(moduli: &[u64], offsets: &[u64], pass: Pass) -> CountAnswer
+pub fn count(moduli: &[u64], offsets: &[u64], pass: Pass) -> ReadAnswer
     requires { ⌜ (pass .field < length (now moduli)) × (length (now offsets) ≡ length (now moduli)) ⌝ }
-    ensures { λ r. ⌜ countAnswer r ≡ total (now (moduli .entry)) (now (offsets .entry)) pass ⌝ }
+    ensures { λ r. ⌜ readAnswer r ≡ total (now (moduli .entry)) (now (offsets .entry)) pass ⌝ }
 {
     let field = pass.field;
     let offset = offsets[field];
-    let fault = fault_with(pass, offset);
-    if fault != 0 {
-        return CountAnswer::Refused(fault);
+    if let Fault::Refused(k) = fault_with(pass, offset) {
+        return ReadAnswer::Refused(k);
     }
     let sum = in_ticks(moduli, field + 1, sum_with(pass, moduli[field], offset));
     if Layout::LARGEST_P < sum {
-        return CountAnswer::Refused(refusals::TOO_LARGE);
+        return ReadAnswer::Refused(refusals::TOO_LARGE);
     }
-    CountAnswer::Count(sum)
+    ReadAnswer::Read(Reading { count: sum })
 }
 
 // Whether the pass met one field, with digits in it.
@@ -86,10 +93,11 @@ pub fn is_number(pass: Pass) -> bool
     if pass.field != 0 {
         return false;
     }
-    if pass.fault != 0 {
-        return false;
+    let fault = pass.fault;
+    match fault {
+        Fault::None => pass.present,
+        Fault::Refused(_) => false,
     }
-    pass.present
 }
 
 // After a gap a digit stands in the next field.
@@ -106,13 +114,14 @@ fn with_digit(moduli: &[u64], offsets: &[u64], pass: Pass, d: u8) -> Pass
 fn digit_in(pass: Pass, d: u8) -> Pass
     ensures { λ r. ⌜ r ≡ digitIn pass d ⌝ }
 {
+    let fault = pass.fault;
     Pass {
         field: pass.field,
         present: true,
         gap: false,
         value: next_value(pass.value, d),
         sum: pass.sum,
-        fault: pass.fault,
+        fault,
     }
 }
 
@@ -140,13 +149,14 @@ fn widened(x: u8) -> u64
 fn with_blank(pass: Pass) -> Pass
     ensures { λ r. ⌜ r ≡ withBlank pass ⌝ }
 {
+    let fault = pass.fault;
     Pass {
         field: pass.field,
         present: pass.present,
         gap: pass.present,
         value: pass.value,
         sum: pass.sum,
-        fault: pass.fault,
+        fault,
     }
 }
 
@@ -157,7 +167,7 @@ fn next_field(moduli: &[u64], offsets: &[u64], pass: Pass) -> Pass
 {
     let field = pass.field;
     if moduli.len() <= field + 1 {
-        return fresh_field(field, 0, refusals::TOO_MANY_FIELDS);
+        return fresh_field(field, 0, Fault::Refused(refusals::TOO_MANY_FIELDS));
     }
     let modulus = moduli[field];
     let offset = offsets[field];
@@ -169,7 +179,7 @@ fn next_field(moduli: &[u64], offsets: &[u64], pass: Pass) -> Pass
 }
 
 // A field of which no digit was met.
-fn fresh_field(field: usize, sum: u64, fault: u64) -> Pass
+fn fresh_field(field: usize, sum: u64, fault: Fault) -> Pass
     ensures { λ r. ⌜ r ≡ fresh field sum fault ⌝ }
 {
     Pass {
@@ -223,39 +233,40 @@ fn in_ticks(moduli: &[u64], from: usize, sum: u64) -> u64
     ticks
 }
 
-// The first refusal with that of the field at hand.
-fn fault_with(pass: Pass, offset: u64) -> u64
+// The first fault, that of the field at hand included.
+fn fault_with(pass: Pass, offset: u64) -> Fault
     ensures { λ r. ⌜ r ≡ faultWith pass offset ⌝ }
 {
-    if pass.fault != 0 {
-        return pass.fault;
+    let fault = pass.fault;
+    match fault {
+        Fault::None => fault_in(pass, offset),
+        Fault::Refused(k) => Fault::Refused(k),
     }
-    fault_in(pass, offset)
 }
 
-fn fault_in(pass: Pass, offset: u64) -> u64
+fn fault_in(pass: Pass, offset: u64) -> Fault
     ensures { λ r. ⌜ r ≡ faultIn pass offset ⌝ }
 {
     if pass.present {
         return value_fault(pass.value, offset);
     }
     if pass.field == 0 {
-        return refusals::FIRST_FIELD_MISSING;
+        return Fault::Refused(refusals::FIRST_FIELD_MISSING);
     }
-    0
+    Fault::None
 }
 
 // Of a field that is there.
-fn value_fault(value: u64, offset: u64) -> u64
+fn value_fault(value: u64, offset: u64) -> Fault
     ensures { λ r. ⌜ r ≡ valueFault value offset ⌝ }
 {
     if LARGEST_FIELD < value {
-        return refusals::TOO_LARGE;
+        return Fault::Refused(refusals::TOO_LARGE);
     }
     if value < offset {
-        return refusals::FIELD_BELOW_OFFSET;
+        return Fault::Refused(refusals::FIELD_BELOW_OFFSET);
     }
-    0
+    Fault::None
 }
 
 fn is_digit(byte: u8) -> bool

@@ -1,2 +1,2 @@
--- The laws of the message reader: one for each way out.
-pub mod Ways
+-- The laws of the trailer: one for each way out.
+pub mod Trailer

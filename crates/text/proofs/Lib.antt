@@ -1,2 +1,6 @@
--- The laws of reading: one for each way out.
-pub mod Ways
+-- The laws of reading: the layout's slots, the first `/`, parsing, and encoding.
+pub mod Slots
+pub mod Slash
+pub mod Parse
+pub mod Encode
+pub mod Calls

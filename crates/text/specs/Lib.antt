@@ -1,2 +1,2 @@
--- What reading answers once the tables are accepted.
-pub mod Accepted
+-- A stamp as the code parses it.
+pub mod ParsedStamp

@@ -1,4 +1,4 @@
-use Rattle.message.proofs.Ways.{too-short, none-back, too-long, too-far, stamped}
+use Rattle.message.proofs.Trailer.{too-short, none-back, too-long, too-far, stamped}
 use borrow.Author.Needs.{needs}
 use Rattle.message.proofs.read_message.Statement.{statement}
 use Rattle.message.proofs.read_message.Tie as tie

@@ -1,7 +1,19 @@
-use Rattle.text.proofs.Ways.{count-other, count-all}
 use borrow.Author.Needs.{needs}
+use Rattle.text.proofs.Parse.{count-other, count-all}
 use Rattle.text.proofs.count_from.Statement.{statement}
 use Rattle.text.proofs.count_from.Tie as tie
 
+returns : tie.Need-returns
+returns c = search (count-other, needs)
+
+returns-2 : tie.Need-returns-2
+returns-2 c = search (count-all, needs)
+
 pub count-from-spec : {M : Type 1} → statement M
-count-from-spec = tie.close (tie.spec (λ c κs. search needs) (λ c. search (count-other, needs)) (λ c κs. search needs) (λ c. search (count-all, needs)))
+count-from-spec =
+    tie.close
+    (tie.spec
+    (λ c κs. search needs)
+    returns
+    (λ c κs. search needs)
+    returns-2)

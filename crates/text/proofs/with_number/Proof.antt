@@ -1,0 +1,19 @@
+use borrow.Author.Needs.{needs}
+use Rattle.text.proofs.Parse.{parsed-count, parsed-refused}
+use Rattle.text.proofs.with_number.Statement.{statement}
+use Rattle.text.proofs.with_number.Tie as tie
+
+returns : tie.Need-returns
+returns c = search (parsed-count, needs)
+
+returns-2 : tie.Need-returns-2
+returns-2 c = search (parsed-refused, needs)
+
+pub with-number-spec : {M : Type 1} → statement M
+with-number-spec =
+    tie.close
+    (tie.spec
+    (λ c. search needs)
+    (λ c. search needs)
+    returns
+    returns-2)
