@@ -27,6 +27,7 @@ use Rattle.segment_line.specs.Line.{ToTime, ToTicks}
 use Rattle.segment_search.specs.declared.Found.{Found}
 use Rattle.segment_search.specs.declared.Found.the-variants as Of
 use Rattle.segment_search.specs.Found.{found}
+use Rattle.time.specs.Stop.{Stoppable}
 use Rattle.time.proofs.Rows.{count-below, next-positive, in-lists, count-row, line-to-time, time-row, line-to-ticks, ticks-small}
 
 module _ (total c : ℕ) where
@@ -37,6 +38,9 @@ module _ (total c : ℕ) where
   pub not-beyond : c ≤ total → answer (countAtTime c) ≡ notBeyond total c
   unfolding notBeyond unless
   not-beyond h = rw (le-leb c total h)
+
+pub next-counts : (counts : List ℕ) (i : ℕ) → Stoppable counts i → i + 1 < length counts → 1 ≤ getD counts (i + 1) 0
+next-counts counts i w h = w .next h
 
 module _ (counts : List ℕ) (i c : ℕ) where
   module _ (more : i + 1 < length counts) where
@@ -73,12 +77,12 @@ module _ (unit total : ℕ) (counts : List ℕ) (times : List ℤ) (rates : List
         pub count-in-lists : RowIn g i
         count-in-lists = in-lists unit total g fg i (count-row unit total g fg (fb .divides) e i at-row)
 
-        pub row-to-time : e ≤ total → ToTime unit (rowOf g i) e
-        row-to-time h = line-to-time unit total g fg (fb .divides) e i at-row h
+        pub row-to-time : (row : Segment) → row ≡ rowOf g i → e ≤ total → ToTime unit row e
+        row-to-time row there h = rw there (line-to-time unit total g fg (fb .divides) e i at-row h)
 
-      pub time-is : (z : ℤ) → e ≤ total → z ≡ lineAt unit (rowOf g i) e → answer (timeOfCount z) ≡ timeIn unit total g e
+      pub time-is : (row : Segment) (z : ℤ) → row ≡ rowOf g i → e ≤ total → SFits w64 z → z ≡ lineAt unit row e → answer (timeOfCount (toZ w64 (ofZ w64 z))) ≡ timeIn unit total g e
       unfolding timeIn unless timeOn
-      time-is z h v = rw (le-leb e total h, at-row, v)
+      time-is row z there h fz v = rw (le-leb e total h, at-row, toZ-ofZ fz, v, there)
 
   pub out-of-range : (t : ℤ) (b : Bool) → SFits w64 t → b ≡ (leZ earliestTime (toZ w64 (ofZ w64 t)) && leZ (toZ w64 (ofZ w64 t)) latestTime) → not b ≡ true → refuse 14 ≡ countIn unit total g t
   unfolding countIn unless
@@ -100,16 +104,19 @@ module _ (unit total : ℕ) (counts : List ℕ) (times : List ℤ) (rates : List
         pub time-in-lists : RowIn g i
         time-in-lists = in-lists unit total g fg i (time-row unit total g fg (fb .divides) t i at-time-row)
 
-        pub row-to-ticks : ToTicks unit (rowOf g i) (toZ w64 (ofZ w64 t))
-        row-to-ticks = rw (toZ-ofZ ft) (line-to-ticks unit total g fg (fb .divides) t i at-time-row)
+        pub stoppable : Stoppable counts i
+        stoppable = record { there = time-row unit total g fg (fb .divides) t i at-time-row; next = next-positive unit total g fg i }
 
-        pub sum-fits : (k : ℕ) → k ≡ ticksSince unit (rowOf g i) (toZ w64 (ofZ w64 t)) → Fits w64 (rowOf g i .count + k)
-        sum-fits k v =
-            record { fits = sum (count-below unit total g fg i (time-row unit total g fg (fb .divides) t i at-time-row)) (ticks-small unit total g fg (fb .divides) t i at-time-row (ft .sfits) (and-second (leZ earliestTime t) (leZ t latestTime) both)) (rw (toZ-ofZ ft) at v) }
+        pub row-to-ticks : (row : Segment) → row ≡ rowOf g i → ToTicks unit row (toZ w64 (ofZ w64 t))
+        row-to-ticks row there = rw (there, toZ-ofZ ft) (line-to-ticks unit total g fg (fb .divides) t i at-time-row)
+
+        pub sum-fits : (row : Segment) (k : ℕ) → row ≡ rowOf g i → k ≡ ticksSince unit row (toZ w64 (ofZ w64 t)) → Fits w64 (row .count + k)
+        sum-fits row k there v =
+            record { fits = rw there (sum (count-below unit total g fg i (time-row unit total g fg (fb .divides) t i at-time-row)) (ticks-small unit total g fg (fb .divides) t i at-time-row (ft .sfits) (and-second (leZ earliestTime t) (leZ t latestTime) both)) (rw (there, toZ-ofZ ft) at v)) }
           where
             sum : {c x : ℕ} → c ≤ total → x ≤ 8_000_000_000_000_000_000 → k ≡ x → c + k < 2 ^ 64
             sum a b d = omega (arith, fb .small)
 
-      pub count-is : (k c : ℕ) (a : Answer CountAtTime) → k ≡ ticksSince unit (rowOf g i) (toZ w64 (ofZ w64 t)) → c ≡ stoppedAt counts i (rowOf g i .count + k) → a ≡ notBeyond total c → a ≡ countIn unit total g t
+      pub count-is : (row : Segment) (k c : ℕ) (a : Answer CountAtTime) → row ≡ rowOf g i → k ≡ ticksSince unit row (toZ w64 (ofZ w64 t)) → c ≡ stoppedAt counts i (row .count + k) → a ≡ notBeyond total c → a ≡ countIn unit total g t
       unfolding countIn unless countOn lineCount
-      count-is k c a v x y = y ∙ rw (x, v, toZ-ofZ ft, both, at-time-row)
+      count-is row k c a there v x y = y ∙ rw (x, v, there, toZ-ofZ ft, both, at-time-row)

@@ -1,16 +1,14 @@
 // The two conversions within accepted segments.
 ghost use mathlib.Core.Path.{_≡_};
 ghost use mathlib.Core.Bool.{_&&_};
-ghost use mathlib.Core.Option.{some};
 ghost use lib.Signed.{leZ};
-ghost use lib.ListN.{length, getD};
-ghost use Prim.Native.Nat.{_+_, _≤_, _<_};
 ghost use Rattle.rules.specs.Limits.{earliestTime, latestTime};
 ghost use Rattle.rules.specs.Answer.{timeAnswer, countAnswer};
 ghost use Rattle.rules.specs.Segments.{segments};
 ghost use Rattle.rules.specs.Facts.{SegmentsFacts};
-ghost use Rattle.rules.specs.Time.{segmentAt, stoppedAt, notBeyond, timeIn, countOn, countIn};
+ghost use Rattle.rules.specs.Time.{stoppedAt, notBeyond, timeIn, countIn};
 ghost use Rattle.tables.specs.Accept.{BasisFacts};
+ghost use Rattle.time.specs.Stop.{Stoppable};
 use layouts::limits::EARLIEST_TIME;
 use layouts::limits::LATEST_TIME;
 use rules::CountAnswer;
@@ -83,8 +81,7 @@ fn in_range(t: i64) -> bool
 
 // A count on row `i`, stopped below the next row's count.
 fn stopped(counts: &[u64], i: usize, count: u64) -> u64
-    requires { ⌜ i < length (now counts) ⌝ }
-    requires { ⌜ (i + 1 < length (now counts) → 1 ≤ getD (now counts) (i + 1) 0) ⌝ }
+    requires { ⌜ Stoppable (now counts) i ⌝ }
     ensures { λ r. ⌜ r ≡ stoppedAt (now (counts .entry)) i count ⌝ }
 {
     if i + 1 < counts.len() {
