@@ -1,3 +1,2 @@
--- Laws of the double form, and the one number with which it refuses.
-pub mod Laws
-pub mod Refusals
+-- Laws of the double form.
+pub mod Tests

@@ -1,42 +1,33 @@
 // The double form: one segment as three doubles, for tools that work in doubles.
 // Each operation of a conversion is an f64 operation, in the order that document 01 writes it.
 use rules::DoubleAnswer;
+use rules::DoubleSegment;
 use rules::Layout;
 ghost use mathlib.Core.Path.{_≡_};
 ghost use Prim.Native.Nat.{_≤_};
 ghost use Rattle.rules.specs.Limits.{largestMSF};
 ghost use Rattle.rules.specs.Answer.{doubleAnswer};
-ghost use Rattle.doubles.specs.Doubles.{tickOf, timeAfter, countAfter, msfOk, finite as isFinite, segmentFinite, rateOk, finiteAnswer, forwardDouble, backDouble};
-
-// A segment in doubles. The rate is in seconds per first-field count.
-pub struct DoubleSegment {
-    pub count: f64,
-    pub time: f64,
-    pub rate: f64,
-}
-
-// The refusal of the double form.
-const DOUBLE_REFUSED: u64 = 15;
+ghost use Rattle.rules.specs.Doubles.{tickOf, timeAfter, countAfter, msfOk, finite as isFinite, segmentFinite, rateOk, finiteAnswer, forwardDouble, backDouble};
 
 // The time at a count of the segment, in seconds.
 pub fn forward(segment: DoubleSegment, msf: u64, count: u64) -> DoubleAnswer
     ensures { λ r. ⌜ doubleAnswer r ≡ forwardDouble segment msf count ⌝ }
 {
     if !msf_ok(msf) {
-        return DoubleAnswer::Refused(DOUBLE_REFUSED);
+        return DoubleAnswer::Refused(refusals::DOUBLE_FORM);
     }
     if Layout::LARGEST_P < count {
-        return DoubleAnswer::Refused(DOUBLE_REFUSED);
+        return DoubleAnswer::Refused(refusals::DOUBLE_FORM);
     }
     if !segment_finite(segment) {
-        return DoubleAnswer::Refused(DOUBLE_REFUSED);
+        return DoubleAnswer::Refused(refusals::DOUBLE_FORM);
     }
     if !rate_ok(segment, msf) {
-        return DoubleAnswer::Refused(DOUBLE_REFUSED);
+        return DoubleAnswer::Refused(refusals::DOUBLE_FORM);
     }
     let given = count as f64;
     if given < segment.count {
-        return DoubleAnswer::Refused(DOUBLE_REFUSED);
+        return DoubleAnswer::Refused(refusals::DOUBLE_FORM);
     }
     finite_answer(time_after(segment, msf, given))
 }
@@ -46,19 +37,19 @@ pub fn back(segment: DoubleSegment, msf: u64, time: f64) -> DoubleAnswer
     ensures { λ r. ⌜ doubleAnswer r ≡ backDouble segment msf time ⌝ }
 {
     if !msf_ok(msf) {
-        return DoubleAnswer::Refused(DOUBLE_REFUSED);
+        return DoubleAnswer::Refused(refusals::DOUBLE_FORM);
     }
     if !segment_finite(segment) {
-        return DoubleAnswer::Refused(DOUBLE_REFUSED);
+        return DoubleAnswer::Refused(refusals::DOUBLE_FORM);
     }
     if !finite(time) {
-        return DoubleAnswer::Refused(DOUBLE_REFUSED);
+        return DoubleAnswer::Refused(refusals::DOUBLE_FORM);
     }
     if !rate_ok(segment, msf) {
-        return DoubleAnswer::Refused(DOUBLE_REFUSED);
+        return DoubleAnswer::Refused(refusals::DOUBLE_FORM);
     }
     if time < segment.time {
-        return DoubleAnswer::Refused(DOUBLE_REFUSED);
+        return DoubleAnswer::Refused(refusals::DOUBLE_FORM);
     }
     finite_answer(count_after(segment, msf, time))
 }
@@ -124,7 +115,7 @@ fn finite_answer(x: f64) -> DoubleAnswer
     ensures { λ r. ⌜ doubleAnswer r ≡ finiteAnswer x ⌝ }
 {
     if !finite(x) {
-        return DoubleAnswer::Refused(DOUBLE_REFUSED);
+        return DoubleAnswer::Refused(refusals::DOUBLE_FORM);
     }
     DoubleAnswer::Double(x)
 }

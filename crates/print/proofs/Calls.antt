@@ -1,49 +1,41 @@
 -- What each way out of the two calls says of the print.
 use Prim.Native.Nat.{ℕ, _+_, _≤_, _<_}
 use mathlib.Core.Path.{_≡_, refl, sym, _∙_}
-use mathlib.Core.Bool.{true, false, not}
 use mathlib.Core.List.{List, _∷_, _++_}
-use lib.Dec.{leb}
-use borrow.Author.Tests.{lt-ltb, le-ltb, le-leb, lt-leb, not-true, not-false}
+use lib.Dec.{leb, ltb}
+use borrow.Author.Tests.{lt-ltb, le-ltb, le-leb, lt-leb}
 use Rattle.rules.specs.declared.Layout.{Layout}
+use Rattle.rules.specs.declared.Refusal.{Refusal}
 use Rattle.rules.specs.declared.PrintAnswer.{PrintAnswer}
-use Rattle.rules.specs.Answer.{Answer, answer, refused, unless, printAnswer}
+use Rattle.rules.specs.Answer.{Answer, refused, refuse, unless, andThen, printAnswer}
 use Rattle.rules.specs.Facts.{LayoutFacts, PartitionsFacts}
-use Rattle.rules.specs.Layout.{layoutOk, moduliOf, offsetsOf, productOf}
+use Rattle.rules.specs.Layout.{moduliOf, offsetsOf, productOf}
 use Rattle.rules.specs.Partitions.{Partitions, totalOf}
 use Rattle.rules.specs.Print.{delimiterByte, padded, fieldsPrint, countPrint, stampPrint, fitting, partitionOf, decodedIn, printCount, printStamp, lengthPrinted, bufferAfter}
 use Rattle.layouts.specs.declared.Measured.{Measured}
-use Rattle.layouts.specs.Measure.{MeasureOf}
-use Rattle.layouts.proofs.Uses.{measured-bad, measured-good, measured-facts, measured-product}
+use Rattle.layouts.specs.declared.MeasureAnswer.{MeasureAnswer}
+use Rattle.layouts.specs.declared.MeasureAnswer.the-variants as Of
+use Rattle.layouts.specs.Measure.{measureAnswer, measureOf}
 use Rattle.tables.specs.declared.Acceptance.{Acceptance}
 use Rattle.tables.specs.declared.Acceptance.the-variants.{Accepted, Refused}
 use Rattle.tables.specs.declared.Basis.{Basis}
-use Rattle.tables.specs.Accept.{acceptance, acceptedStamps, basis, StampsOf}
-use Rattle.tables.proofs.Uses.{stamps-facts, stamps-refused, stamps-accepted}
+use Rattle.tables.specs.Accept.{acceptance, stampsBasis}
+use Rattle.tables.proofs.Accepted.{layout-refused, layout-good, layout-product, layout-accepted, stamps-facts, stamps-refused, stamps-accepted}
 use Rattle.print.specs.Printed.{Printed}
 
 -- the two clauses of a contract
 pub both : (r : PrintAnswer) {a : Answer (List ℕ)} {entry exit : List ℕ} → Printed a r entry exit → (printAnswer r ≡ lengthPrinted a) × (exit ≡ bufferAfter a entry)
 both r w = (w .answers, w .bytes)
 
-module _ (r : PrintAnswer) (b : List ℕ) where
-  -- a refusal leaves the buffer
-  left-alone : (a : Answer (List ℕ)) (k : ℕ) → refused k ≡ a → printAnswer r ≡ refused k → Printed a r b b
-  unfolding lengthPrinted bufferAfter
-  left-alone a k e h = record { answers = h ∙ rw (← e); bytes = rw (← e) }
+-- a refusal is passed on, and leaves the buffer
+module _ (a : Answer (List ℕ)) (k : Refusal) (e : refused k ≡ a) where
+  pub refused-length : refused k ≡ lengthPrinted a
+  unfolding lengthPrinted
+  refused-length = rw (← e)
 
-module _ (l : Layout) (m : Measured) (w : MeasureOf l m) (t : not (m .ok) ≡ false) where
-  good : layoutOk l ≡ true
-  good = measured-good l m w (not-false (m .ok) t)
-
-  product : m .product ≡ productOf l
-  product = measured-product l m w (not-false (m .ok) t)
-
-  pub count-facts : LayoutFacts l
-  count-facts = measured-facts l m w (not-false (m .ok) t)
-
-  pub count-below : (c : ℕ) → c < m .product → c < productOf l
-  count-below c h = rw product at h
+  refused-bytes : (b : List ℕ) → b ≡ bufferAfter a b
+  unfolding bufferAfter
+  refused-bytes b = rw (← e)
 
 module _ (l : Layout) (c room : ℕ) (r : PrintAnswer) (entry exit : List ℕ) where
   pub count-print : (d : ℕ) → d ≡ delimiterByte (l .delimiter) → Printed (fitting room (fieldsPrint d c (moduliOf l) (offsetsOf l))) r entry exit
@@ -51,32 +43,48 @@ module _ (l : Layout) (c room : ℕ) (r : PrintAnswer) (entry exit : List ℕ) w
   unfolding countPrint
   count-print d e w = rw e at w
 
-  module _ (m : Measured) (w : MeasureOf l m) where
-    pub count-layout : not (m .ok) ≡ true → printAnswer r ≡ refused 1 → Printed (printCount l c room) r entry entry
-    unfolding printCount unless
-    count-layout t h = left-alone r entry _ 1 (rw (measured-bad l m w (not-true (m .ok) t))) h
+module _ (l : Layout) (a : MeasureAnswer) (w : measureAnswer a ≡ measureOf l) (c : ℕ) where
+  pub count-layout : (room : ℕ) (k : Refusal) → a ≡ Of.Refused k → refused k ≡ printCount l c room
+  unfolding printCount
+  count-layout room k h = layout-refused l a w k _ h
 
-    module _ (t : not (m .ok) ≡ false) where
-      pub count-large : m .product ≤ c → printAnswer r ≡ refused 9 → Printed (printCount l c room) r entry entry
-      unfolding printCount unless
-      count-large k h = left-alone r entry _ 9 (rw (good l m w t, le-ltb c (productOf l) (rw (product l m w t) at k))) h
+  pub count-layout-leaves : (room : ℕ) (k : Refusal) (b : List ℕ) → a ≡ Of.Refused k → b ≡ bufferAfter (printCount l c room) b
+  count-layout-leaves room k b h = refused-bytes _ k (count-layout room k h) b
 
-      pub count-printed : c < m .product → Printed (fitting room (countPrint l c)) r entry exit → Printed (printCount l c room) r entry exit
-      unfolding printCount unless
-      count-printed k v = rw (good l m w t, lt-ltb c (productOf l) (count-below l m w t c k)) v
+  module _ (m : Measured) (h : a ≡ Of.Accepted m) where
+    pub count-facts : LayoutFacts l
+    count-facts = layout-good l a w m h
 
-module _ (l : Layout) (m : Measured) (w : MeasureOf l m) (p : Partitions) (q : Acceptance) (v : StampsOf m p q) (b : Basis) (s : q ≡ Accepted b) where
-  a : acceptance q ≡ acceptedStamps l p (answer (basis l p))
-  a = v .same l w
+    product : m .product ≡ productOf l
+    product = layout-product l a w m h
 
+    pub count-below : c < m .product → c < productOf l
+    count-below k = rw product at k
+
+    after : (room : ℕ) → printCount l c room ≡ unless 9 (ltb c (productOf l)) (fitting room (countPrint l c))
+    unfolding printCount
+    after room = sym (layout-accepted l a w m h _ _ refl)
+
+    pub count-large : (room : ℕ) → m .product ≤ c → refuse 9 ≡ printCount l c room
+    unfolding unless
+    count-large room k = sym (after room ∙ rw (le-ltb c (productOf l) (rw product at k)))
+
+    pub count-large-leaves : (room : ℕ) (b : List ℕ) → m .product ≤ c → b ≡ bufferAfter (printCount l c room) b
+    count-large-leaves room b k = refused-bytes _ _ (count-large room k) b
+
+    pub count-printed : (room : ℕ) (r : PrintAnswer) (entry exit : List ℕ) → c < m .product → Printed (fitting room (countPrint l c)) r entry exit → Printed (printCount l c room) r entry exit
+    unfolding unless
+    count-printed room r entry exit k v = rw (after room, lt-ltb c (productOf l) (count-below k)) v
+
+module _ (l : Layout) (p : Partitions) (a : MeasureAnswer) (w : measureAnswer a ≡ measureOf l) (q : Acceptance) (v : acceptance q ≡ andThen (measureAnswer a) (stampsBasis p)) (b : Basis) (s : q ≡ Accepted b) where
   pub stamp-layout : LayoutFacts l
-  stamp-layout = stamps-facts l p q a b s .layout
+  stamp-layout = stamps-facts l p a w q v b s .layout
 
-  pub stamp-partitions : PartitionsFacts l p
-  stamp-partitions = stamps-facts l p q a b s .partitions
+  pub stamp-partitions : PartitionsFacts (productOf l) p
+  stamp-partitions = stamps-facts l p a w q v b s .partitions
 
   stamp-total : b .total ≡ totalOf p
-  stamp-total = stamps-facts l p q a b s .total
+  stamp-total = stamps-facts l p a w q v b s .total
 
   pub stamp-held : (e : ℕ) → e ≤ b .total → e ≤ totalOf p
   stamp-held e h = rw stamp-total at h
@@ -88,20 +96,26 @@ module _ (l : Layout) (p : Partitions) (e room : ℕ) (r : PrintAnswer) (entry e
   unfolding stampPrint countPrint
   stamp-print d partition count ed ep ec w = rw (ed, ec, ep) at w
 
-  module _ (m : Measured) (w : MeasureOf l m) (q : Acceptance) (v : StampsOf m p q) where
-    pub stamp-tables : (k : ℕ) → q ≡ Refused k → printAnswer r ≡ refused k → Printed (printStamp l p e room) r entry entry
+module _ (l : Layout) (p : Partitions) (a : MeasureAnswer) (w : measureAnswer a ≡ measureOf l) (q : Acceptance) (v : acceptance q ≡ andThen (measureAnswer a) (stampsBasis p)) (e room : ℕ) where
+  pub stamp-tables : (k : Refusal) → q ≡ Refused k → refused k ≡ printStamp l p e room
+  unfolding printStamp
+  stamp-tables k s = stamps-refused l p a w q v k _ s
+
+  pub stamp-tables-leave : (k : Refusal) (b : List ℕ) → q ≡ Refused k → b ≡ bufferAfter (printStamp l p e room) b
+  stamp-tables-leave k b s = refused-bytes _ k (stamp-tables k s) b
+
+  module _ (b : Basis) (s : q ≡ Accepted b) where
+    stamp-next : printStamp l p e room ≡ unless 12 (leb e (totalOf p)) (fitting room (stampPrint l p e))
     unfolding printStamp
-    stamp-tables k s h = left-alone r entry _ k (stamps-refused l p q (v .same l w) k _ s) h
+    stamp-next = sym (stamps-accepted l p a w q v b s _ (unless 12 (leb e (totalOf p)) (fitting room (stampPrint l p e))) refl)
 
-    module _ (b : Basis) (s : q ≡ Accepted b) where
-      stamp-next : printStamp l p e room ≡ unless 12 (leb e (totalOf p)) (fitting room (stampPrint l p e))
-      unfolding printStamp
-      stamp-next = sym (stamps-accepted l p q (v .same l w) b s _ (unless 12 (leb e (totalOf p)) (fitting room (stampPrint l p e))) refl)
+    pub stamp-above : b .total < e → refuse 12 ≡ printStamp l p e room
+    unfolding unless
+    stamp-above k = sym (stamp-next ∙ rw (lt-leb e (totalOf p) (rw (stamp-total l p a w q v b s) at k)))
 
-      pub stamp-above : b .total < e → printAnswer r ≡ refused 12 → Printed (printStamp l p e room) r entry entry
-      unfolding unless
-      stamp-above k h = left-alone r entry _ 12 (sym (stamp-next ∙ rw (lt-leb e (totalOf p) (rw (stamp-total l m w p q v b s) at k)))) h
+    pub stamp-above-leaves : (buffer : List ℕ) → b .total < e → buffer ≡ bufferAfter (printStamp l p e room) buffer
+    stamp-above-leaves buffer k = refused-bytes _ _ (stamp-above k) buffer
 
-      pub stamp-printed : e ≤ b .total → Printed (fitting room (stampPrint l p e)) r entry exit → Printed (printStamp l p e room) r entry exit
-      unfolding unless
-      stamp-printed k x = rw (stamp-next, le-leb e (totalOf p) (stamp-held l m w p q v b s e k)) x
+    pub stamp-printed : (r : PrintAnswer) (entry exit : List ℕ) → e ≤ b .total → Printed (fitting room (stampPrint l p e)) r entry exit → Printed (printStamp l p e room) r entry exit
+    unfolding unless
+    stamp-printed r entry exit k x = rw (stamp-next, le-leb e (totalOf p) (stamp-held l p a w q v b s e k)) x

@@ -4,8 +4,8 @@ use mathlib.Core.Path.{_≡_, _∙_}
 use mathlib.Core.List.{List, [], _∷_, _++_, append-assoc}
 use lib.ListN.{length, length-append}
 use native.Mathlib.Omega.{arith}
-use Rattle.rules.specs.declared.PrintAnswer.{PrintAnswer}
-use Rattle.rules.specs.Answer.{answer, refused, printAnswer}
+use Rattle.rules.specs.declared.PrintAnswer.the-variants as Prints
+use Rattle.rules.specs.Answer.{numbered}
 use Rattle.rules.specs.Print.{digitCount, lastDigits, padded, fieldsPrint, fitting}
 use Rattle.decimal.specs.Writing.{Room, Written}
 use Rattle.roundtrip.proofs.Digits.{digits-some, padded-length}
@@ -49,11 +49,11 @@ module _ (number digits : ℕ) (e : digits ≡ digitCount number) where
           within = omega (arith, v .ends);
         }
 
-    pub numbered-fit : (r : PrintAnswer) (at start : ℕ) (b b1 b2 : List ℕ) → digits + 1 + n ≤ length b → printAnswer r ≡ answer (digits + 1 + n)
+    pub numbered-fit : (at start : ℕ) (b b1 b2 : List ℕ) → digits + 1 + n ≤ length b
         → Written (fieldsPrint d c ms os) (digits + 1 + n) at b b1 → Written (padded 1 number ++ (47 ∷ [])) at start b1 b2
-        → Printed (fitting (length b) (padded 1 number ++ (47 ∷ fieldsPrint d c ms os))) r b b2
-    numbered-fit r at start b b1 b2 h a v u =
-        print-fits (padded 1 number ++ (47 ∷ fieldsPrint d c ms os)) (digits + 1 + n) numbered-length (length b) r start b b2 h a
+        → Printed (fitting (length b) (padded 1 number ++ (47 ∷ fieldsPrint d c ms os))) (Prints.Length (digits + 1 + n)) b b2
+    numbered-fit at start b b1 b2 h v u =
+        print-fits (padded 1 number ++ (47 ∷ fieldsPrint d c ms os)) (digits + 1 + n) numbered-length (length b) start b b2 h
         (rw slash at (written-append (padded 1 number ++ (47 ∷ [])) (fieldsPrint d c ms os) (digits + 1 + n) at start b b1 b2 room v u))
       where
         slash : (padded 1 number ++ (47 ∷ [])) ++ fieldsPrint d c ms os ≡ padded 1 number ++ (47 ∷ fieldsPrint d c ms os)
@@ -62,6 +62,6 @@ module _ (number digits : ℕ) (e : digits ≡ digitCount number) where
         room : Room ((padded 1 number ++ (47 ∷ [])) ++ fieldsPrint d c ms os) (digits + 1 + n) b
         room = rw slash (record { before = omega (arith, numbered-length); within = h })
 
-    pub numbered-short : (r : PrintAnswer) (b : List ℕ) → length b < digits + 1 + n → printAnswer r ≡ refused 16
-        → Printed (fitting (length b) (padded 1 number ++ (47 ∷ fieldsPrint d c ms os))) r b b
-    numbered-short r b h a = print-short (padded 1 number ++ (47 ∷ fieldsPrint d c ms os)) (digits + 1 + n) numbered-length (length b) r b h a
+    pub numbered-short : (b : List ℕ) → length b < digits + 1 + n
+        → Printed (fitting (length b) (padded 1 number ++ (47 ∷ fieldsPrint d c ms os))) (Prints.Refused (numbered 16)) b b
+    numbered-short b h = print-short (padded 1 number ++ (47 ∷ fieldsPrint d c ms os)) (digits + 1 + n) numbered-length (length b) b h

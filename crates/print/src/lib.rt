@@ -10,30 +10,31 @@ ghost use Rattle.rules.specs.Limits.{lastDelimiter};
 ghost use Rattle.rules.specs.Partitions.{partitions, totalOf};
 ghost use Rattle.rules.specs.Print.{delimiterByte, countPrint, stampPrint, fitting, printCount, printStamp, lengthPrinted, bufferAfter};
 ghost use Rattle.print.specs.Printed.{Printed};
-use crate::front::print_fields;
-use crate::front::print_numbered;
-use crate::front::refused;
+use crate::buffered::print_fields;
+use crate::buffered::print_numbered;
 use decode::decode;
+use layouts::MeasureAnswer;
 use layouts::measure;
 use rules::Layout;
 use rules::PrintAnswer;
 use tables::Acceptance;
 
-mod front;
+mod buffered;
 
 // Prints a count below P as clock text.
 pub fn print_count(layout: Layout, count: u64, buffer: &mut [u8]) -> PrintAnswer
     ensures { λ r. ⌜ printAnswer r ≡ lengthPrinted (printCount layout count (length (now (buffer .entry)))) ⌝ }
     ensures { λ r. ⌜ now (buffer .exit) ≡ bufferAfter (printCount layout count (length (now (buffer .entry)))) (now (buffer .entry)) ⌝ }
 {
-    let measured = measure(layout);
-    if !measured.ok {
-        return refused(refusals::LAYOUT);
+    match measure(layout) {
+        MeasureAnswer::Accepted(m) => {
+            if m.product <= count {
+                return PrintAnswer::Refused(refusals::TOO_LARGE);
+            }
+            count_of(layout, count, buffer)
+        }
+        MeasureAnswer::Refused(k) => PrintAnswer::Refused(k),
     }
-    if measured.product <= count {
-        return refused(refusals::TOO_LARGE);
-    }
-    count_of(layout, count, buffer)
 }
 
 // Prints an encoded count up to the total as a stamp.
@@ -48,13 +49,13 @@ pub fn print_stamp(
     ensures { λ r. ⌜ now (buffer .exit) ≡ bufferAfter (printStamp layout (partitions (now (starts .entry)) (now (ends .entry))) encoded (length (now (buffer .entry)))) (now (buffer .entry)) ⌝ }
 {
     match tables::accept_stamps(measure(layout), starts, ends) {
-        Acceptance::Refused(number) => refused(number),
         Acceptance::Accepted(basis) => {
             if basis.total < encoded {
-                return refused(refusals::BEYOND_TOTAL);
+                return PrintAnswer::Refused(refusals::BEYOND_TOTAL);
             }
             stamp_of(layout, starts, ends, encoded, buffer)
         }
+        Acceptance::Refused(k) => PrintAnswer::Refused(k),
     }
 }
 
@@ -78,7 +79,7 @@ fn stamp_of(
     buffer: &mut [u8],
 ) -> PrintAnswer
     requires { ⌜ LayoutFacts layout ⌝ }
-    requires { ⌜ PartitionsFacts layout (partitions (now starts) (now ends)) ⌝ }
+    requires { ⌜ PartitionsFacts (productOf layout) (partitions (now starts) (now ends)) ⌝ }
     requires { ⌜ encoded ≤ totalOf (partitions (now starts) (now ends)) ⌝ }
     ensures { λ r. ⌜ Printed (fitting (length (now (buffer .entry))) (stampPrint layout (partitions (now (starts .entry)) (now (ends .entry))) encoded)) r (now (buffer .entry)) (now (buffer .exit)) ⌝ }
 {

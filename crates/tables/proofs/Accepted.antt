@@ -1,4 +1,5 @@
--- What a caller has of accepted tables, by the case of the answer: `stamps-..` of layout and partitions, `table-..` of all three.
+-- What a caller has of accepted tables, by the case of the answer: `layout-..` of the layout, `stamps-..` of layout and partitions,
+-- `table-..` of all three.
 use Prim.Native.Nat.{ℕ}
 use mathlib.Core.Path.{_≡_, refl, sym, _∙_, ap}
 use mathlib.Core.Bool.{Bool, true, false}
@@ -10,8 +11,11 @@ use Rattle.rules.specs.Partitions.{Partitions, partitionsOk, totalOf}
 use Rattle.rules.specs.Segments.{Segments, segmentsOk}
 use Rattle.rules.specs.Time.{accepted}
 use Rattle.rules.proofs.Accepted.{layout-facts, partitions-facts, segments-facts}
-use Rattle.rules.proofs.Answers.{unless-test, unless-rest}
+use Rattle.rules.proofs.Answers.{not-answer, unless-test, unless-rest}
+use Rattle.rules.specs.Facts.{LayoutFacts}
+use Rattle.layouts.specs.declared.Measured.{Measured}
 use Rattle.layouts.specs.declared.MeasureAnswer.{MeasureAnswer}
+use Rattle.layouts.specs.declared.MeasureAnswer.the-variants as Of
 use Rattle.layouts.specs.Measure.{measureAnswer, measureOf, measured}
 use Rattle.layouts.proofs.Units.{unit-facts}
 use Rattle.tables.specs.declared.Basis.{Basis}
@@ -23,6 +27,26 @@ use Rattle.tables.proofs.Guards.{passed, refused-same, then-unless}
 -- two answers with one payload
 payload : {A : Type 0} {x y : A} → answer x ≡ answer y → x ≡ y
 payload q = cc
+
+module _ (l : Layout) (m : MeasureAnswer) (w : measureAnswer m ≡ measureOf l) where
+  pub layout-refused : {A : Type 0} (k : Refusal) (a : Answer A) → m ≡ Of.Refused k → refused k ≡ unless 1 (layoutOk l) a
+  unfolding measureOf
+  layout-refused k a h = refused-same k 1 (layoutOk l) (answer (measured l)) a (rw h at (sym w)) (λ z. absurd (not-answer (sym z)))
+
+  module _ (v : Measured) (h : m ≡ Of.Accepted v) where
+    good : layoutOk l ≡ true
+    unfolding measureOf
+    good = unless-test 1 (layoutOk l) (answer (measured l)) v (rw h at (sym w))
+
+    pub layout-good : LayoutFacts l
+    layout-good = layout-facts l good
+
+    pub layout-product : v .product ≡ productOf l
+    unfolding measureOf
+    layout-product = ap (λ (x : Measured). x .product) (sym (payload (unless-rest 1 (layoutOk l) (answer (measured l)) v (rw h at (sym w)))))
+
+    pub layout-accepted : {A : Type 0} (x a : Answer A) → x ≡ a → x ≡ unless 1 (layoutOk l) a
+    layout-accepted x a q = passed 1 (layoutOk l) a x good q
 
 module _ (l : Layout) (p : Partitions) where
   -- 1 and 2, and then what follows

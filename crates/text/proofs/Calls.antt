@@ -1,31 +1,27 @@
 -- The calls: the tables first.
 use Prim.Native.Nat.{ℕ, _≤_}
-use mathlib.Core.Path.{_≡_, sym}
-use mathlib.Core.Bool.{true}
+use mathlib.Core.Path.{_≡_}
 use mathlib.Core.List.{List}
 use lib.ListN.{length}
 use Rattle.rules.specs.Limits.{mostFields}
 use Rattle.rules.specs.declared.Layout.{Layout}
 use Rattle.rules.specs.declared.Refusal.{Refusal}
 use Rattle.rules.specs.declared.Reading.{Reading}
-use Rattle.rules.specs.Answer.{Answer, answer, refused, andThen}
-use Rattle.rules.specs.Layout.{layoutOk, moduliOf, offsetsOf, productOf}
+use Rattle.rules.specs.Answer.{Answer, refused, andThen}
+use Rattle.rules.specs.Layout.{moduliOf, offsetsOf, productOf}
 use Rattle.rules.specs.Partitions.{Partitions}
 use Rattle.rules.specs.Text.{parseText, readText}
 use Rattle.rules.specs.Stamp.{parseStamp, encode, readStamp}
 use Rattle.rules.specs.Facts.{LayoutFacts}
-use Rattle.rules.proofs.Accepted.{layout-facts}
-use Rattle.rules.proofs.Answers.{not-answer, unless-test}
 use Rattle.layouts.specs.declared.Measured.{Measured}
 use Rattle.layouts.specs.declared.MeasureAnswer.{MeasureAnswer}
 use Rattle.layouts.specs.declared.MeasureAnswer.the-variants as Of
-use Rattle.layouts.specs.Measure.{measured, measureAnswer, measureOf}
+use Rattle.layouts.specs.Measure.{measureAnswer, measureOf}
 use Rattle.tables.specs.declared.Basis.{Basis}
 use Rattle.tables.specs.declared.Acceptance.{Acceptance}
 use Rattle.tables.specs.declared.Acceptance.the-variants as Accepts
 use Rattle.tables.specs.Accept.{acceptance, stampsBasis}
-use Rattle.tables.proofs.Guards.{passed, refused-same}
-use Rattle.tables.proofs.Accepted.{stamps-refused, stamps-facts, stamps-accepted}
+use Rattle.tables.proofs.Accepted.{layout-refused, layout-good, layout-accepted, stamps-refused, stamps-facts, stamps-accepted}
 use Rattle.encode.specs.Listed.{Listed}
 use Rattle.encode.proofs.Sums.{listed}
 
@@ -38,20 +34,16 @@ module _ (l : Layout) where
 
   module _ (m : MeasureAnswer) (e : measureAnswer m ≡ measureOf l) where
     pub text-refused : (s : List ℕ) (k : Refusal) → m ≡ Of.Refused k → refused k ≡ readText l s
-    unfolding readText measureOf
-    text-refused s k h = refused-same k 1 (layoutOk l) (answer (measured l)) _ (rw h at (sym e)) (λ z. absurd (not-answer (sym z)))
+    unfolding readText
+    text-refused s k h = layout-refused l m e k _ h
 
     module _ (v : Measured) (h : m ≡ Of.Accepted v) where
-      good : layoutOk l ≡ true
-      unfolding measureOf
-      good = unless-test 1 (layoutOk l) (answer (measured l)) v (rw h at (sym e))
-
       pub text-layout : LayoutFacts l
-      text-layout = layout-facts l good
+      text-layout = layout-good l m e v h
 
       pub text-accepted : (s : List ℕ) (a : Answer Reading) → a ≡ parseText (moduliOf l) (offsetsOf l) s → a ≡ readText l s
       unfolding readText
-      text-accepted s a f = passed 1 (layoutOk l) _ a good f
+      text-accepted s a f = layout-accepted l m e v h a _ f
 
     module _ (p : Partitions) (r : Acceptance) (f : acceptance r ≡ andThen (measureAnswer m) (stampsBasis p)) where
       pub stamp-refused : (s : List ℕ) (k : Refusal) → r ≡ Accepts.Refused k → refused k ≡ readStamp l p s

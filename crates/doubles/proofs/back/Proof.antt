@@ -1,31 +1,31 @@
-use Rattle.doubles.proofs.Laws.{refuse, pass, failed, held, before, msf-small, answered, back-answered}
-use Rattle.doubles.specs.Doubles.{backDouble}
+use Rattle.doubles.proofs.Tests.{stop, pass, failed, held, before, msf-small, answered, back-answered}
+use Rattle.rules.specs.Doubles.{backDouble}
 use borrow.Author.Needs.{needs}
 use Rattle.doubles.proofs.back.Statement.{statement}
 use Rattle.doubles.proofs.back.Tie as tie
 
 returns : tie.Need-returns
 unfolding backDouble
-returns c = search (refuse, failed, needs)
+returns c = search (stop, failed, needs)
 
 returns-2 : tie.Need-returns-2
 unfolding backDouble
-returns-2 c = search (refuse, pass, failed, held, needs)
+returns-2 c = search (stop, pass, failed, held, needs)
 
 returns-3 : tie.Need-returns-3
 unfolding backDouble
-returns-3 c = search (refuse, pass, held, failed, needs)
+returns-3 c = search (stop, pass, held, failed, needs)
 
 rate-ok-requires : tie.Need-rate-ok-requires
 rate-ok-requires c κs = search (msf-small, held, needs)
 
 returns-4 : tie.Need-returns-4
 unfolding backDouble
-returns-4 c = search (refuse, pass, held, failed, needs)
+returns-4 c = search (stop, pass, held, failed, needs)
 
 returns-5 : tie.Need-returns-5
 unfolding backDouble
-returns-5 c = search (refuse, pass, held, before, needs)
+returns-5 c = search (stop, pass, held, before, needs)
 
 count-after-requires : tie.Need-count-after-requires
 count-after-requires c κs = search (msf-small, held, needs)

@@ -1,4 +1,4 @@
-use Rattle.doubles.specs.Doubles.{countAfter}
+use Rattle.rules.specs.Doubles.{countAfter}
 use borrow.Author.Needs.{needs}
 use Rattle.doubles.proofs.count_after.Statement.{statement}
 use Rattle.doubles.proofs.count_after.Tie as tie

@@ -1,4 +1,4 @@
-use Rattle.doubles.proofs.Laws.{finite-in, finite-out}
+use Rattle.doubles.proofs.Tests.{finite-in, finite-out}
 use borrow.Author.Needs.{needs}
 use Rattle.doubles.proofs.finite.Statement.{statement}
 use Rattle.doubles.proofs.finite.Tie as tie

@@ -1,12 +1,12 @@
-use Rattle.doubles.proofs.Laws.{refuse, pass, failed, held}
-use Rattle.doubles.specs.Doubles.{finiteAnswer}
+use Rattle.doubles.proofs.Tests.{stop, pass, failed, held}
+use Rattle.rules.specs.Doubles.{finiteAnswer}
 use borrow.Author.Needs.{needs}
 use Rattle.doubles.proofs.finite_answer.Statement.{statement}
 use Rattle.doubles.proofs.finite_answer.Tie as tie
 
 returns : tie.Need-returns
 unfolding finiteAnswer
-returns c = search (refuse, failed, needs)
+returns c = search (stop, failed, needs)
 
 returns-2 : tie.Need-returns-2
 unfolding finiteAnswer

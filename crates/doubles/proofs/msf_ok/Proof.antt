@@ -1,4 +1,4 @@
-use Rattle.doubles.proofs.Laws.{msf-in, msf-out}
+use Rattle.doubles.proofs.Tests.{msf-in, msf-out}
 use borrow.Author.Needs.{needs}
 use Rattle.doubles.proofs.msf_ok.Statement.{statement}
 use Rattle.doubles.proofs.msf_ok.Tie as tie

@@ -1,4 +1,4 @@
-use Rattle.doubles.proofs.Laws.{rate-in, rate-out}
+use Rattle.doubles.proofs.Tests.{rate-in, rate-out}
 use borrow.Author.Needs.{needs}
 use Rattle.doubles.proofs.rate_ok.Statement.{statement}
 use Rattle.doubles.proofs.rate_ok.Tie as tie

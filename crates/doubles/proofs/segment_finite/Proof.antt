@@ -1,4 +1,4 @@
-use Rattle.doubles.proofs.Laws.{failed, held, count-out, time-out, rate-last}
+use Rattle.doubles.proofs.Tests.{failed, held, count-out, time-out, rate-last}
 use borrow.Author.Needs.{needs}
 use Rattle.doubles.proofs.segment_finite.Statement.{statement}
 use Rattle.doubles.proofs.segment_finite.Tie as tie

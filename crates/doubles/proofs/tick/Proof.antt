@@ -1,7 +1,7 @@
 use borrow.Author.Needs.{needs}
 use native.Mathlib.Omega.{arith}
-use Rattle.doubles.proofs.Laws.{exact}
-use Rattle.doubles.specs.Doubles.{tickOf}
+use Rattle.doubles.proofs.Tests.{exact}
+use Rattle.rules.specs.Doubles.{tickOf}
 use Rattle.doubles.proofs.tick.Statement.{statement}
 use Rattle.doubles.proofs.tick.Tie as tie
 

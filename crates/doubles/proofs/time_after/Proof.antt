@@ -1,4 +1,4 @@
-use Rattle.doubles.specs.Doubles.{timeAfter}
+use Rattle.rules.specs.Doubles.{timeAfter}
 use borrow.Author.Needs.{needs}
 use Rattle.doubles.proofs.time_after.Statement.{statement}
 use Rattle.doubles.proofs.time_after.Tie as tie

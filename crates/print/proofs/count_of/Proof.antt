@@ -1,4 +1,4 @@
-use Rattle.print.proofs.Tables.{slots-count, fields-facts}
+use Rattle.print.proofs.Layouts.{slots-count, fields-facts}
 use Rattle.print.proofs.Calls.{count-print}
 use Rattle.layouts.proofs.Slots.{slots-within}
 use borrow.Author.Needs.{needs}

@@ -1,5 +1,5 @@
-use Rattle.print.proofs.Tables.{slots-count, decoded-facts}
-use Rattle.decode.proofs.Uses.{decodable, partition-few}
+use Rattle.print.proofs.Layouts.{slots-count, decoded-facts}
+use Rattle.decode.proofs.Accepted.{decodable, partition-few}
 use Rattle.print.proofs.Calls.{stamp-print}
 use Rattle.layouts.proofs.Slots.{slots-within}
 use borrow.Author.Needs.{needs}

@@ -10,15 +10,15 @@ use native.Mathlib.Omega.{arith}
 use Rattle.base.specs.Scans.{allOf}
 use Rattle.base.proofs.Tests.{and-second}
 use Rattle.rules.specs.Limits.{largestMSF, largestCount}
-use Rattle.rules.specs.Answer.{Answer, refused, unless}
-use Rattle.doubles.specs.declared.DoubleSegment.{DoubleSegment}
-use Rattle.doubles.specs.Doubles.{double, tickOf, msfOk, finite, segmentFinite, rateOk, finiteAnswer, timeAfter, countAfter, forwardDouble, backDouble}
+use Rattle.rules.specs.Answer.{Answer, refuse, unless}
+use Rattle.rules.specs.declared.DoubleSegment.{DoubleSegment}
+use Rattle.rules.specs.Doubles.{double, tickOf, msfOk, finite, segmentFinite, rateOk, finiteAnswer, timeAfter, countAfter, forwardDouble, backDouble}
 
 -- a test failed, or it held and the rest decides
 module _ {A : Type 0} (k : ℕ) where
-  pub refuse : {t : Bool} (a : Answer A) → t ≡ false → refused k ≡ unless k t a
+  pub stop : {t : Bool} (a : Answer A) → t ≡ false → refuse k ≡ unless k t a
   unfolding unless
-  refuse a f = rw f
+  stop a f = rw f
 
   pub pass : {t : Bool} {x a : Answer A} → t ≡ true → x ≡ a → x ≡ unless k t a
   unfolding unless

@@ -1,7 +1,13 @@
 use Rattle.print.proofs.Numbered.{numbered-room, rest-room, numbered-fit, numbered-short}
 use borrow.Author.Needs.{needs}
-use Rattle.print.proofs.front.print_numbered.Statement.{statement}
-use Rattle.print.proofs.front.print_numbered.Tie as tie
+use Rattle.print.proofs.buffered.print_numbered.Statement.{statement}
+use Rattle.print.proofs.buffered.print_numbered.Tie as tie
+
+write-fields-requires : tie.Need-write-fields-requires
+write-fields-requires c κs = (search needs, search (numbered-room, needs))
+
+write-number-requires : tie.Need-write-number-requires
+write-number-requires c κs = (search needs, search (rest-room, needs))
 
 pub print-numbered-spec : {M : Type 1} → statement M
 print-numbered-spec =
@@ -12,10 +18,8 @@ print-numbered-spec =
     (λ c. search needs)
     (λ c κs. search needs)
     (λ c. search needs)
-    (λ c κs. search needs)
     (λ c. search (numbered-short, needs))
-    (λ c κs. (search needs, search (numbered-room, needs)))
-    (λ c κs. (search needs, search (rest-room, needs)))
-    (λ c κs. search needs)
+    write-fields-requires
+    write-number-requires
     (λ c. search needs)
     (λ c. search (numbered-fit, needs)))

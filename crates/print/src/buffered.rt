@@ -3,8 +3,6 @@ ghost use Prim.Native.Nat.{_+_, _<_};
 ghost use mathlib.Core.Path.{_≡_};
 ghost use mathlib.Core.List.{[], _∷_, _++_};
 ghost use lib.ListN.{length};
-ghost use Rattle.rules.specs.Answer.{answer, printAnswer};
-ghost use Rattle.rules.specs.Answer.{refused as Answer·refused};
 ghost use Rattle.rules.specs.Limits.{mostPartitions};
 ghost use Rattle.rules.specs.Print.{digitCount, fitting, padded, fieldsPrint};
 ghost use Rattle.decimal.specs.Writing.{Room, Written};
@@ -27,10 +25,10 @@ pub fn print_fields(
 {
     let count_bytes = fields_length(count, moduli, offsets);
     if buffer.len() < count_bytes {
-        return refused(refusals::BUFFER_TOO_SHORT);
+        return PrintAnswer::Refused(refusals::BUFFER_TOO_SHORT);
     }
     write_fields(delimiter, count, moduli, offsets, count_bytes, buffer);
-    printed(count_bytes)
+    PrintAnswer::Length(count_bytes)
 }
 
 // The partition's number, `/`, and the fields of a count in that partition.
@@ -50,11 +48,11 @@ pub fn print_numbered(
     let digits = decimal::digit_count(number);
     let stamp_bytes = digits + 1 + fields_length(count, moduli, offsets);
     if buffer.len() < stamp_bytes {
-        return refused(refusals::BUFFER_TOO_SHORT);
+        return PrintAnswer::Refused(refusals::BUFFER_TOO_SHORT);
     }
     let at = write_fields(delimiter, count, moduli, offsets, stamp_bytes, buffer);
     write_number(number, digits, at, buffer);
-    printed(stamp_bytes)
+    PrintAnswer::Length(stamp_bytes)
 }
 
 // A partition's number and `/`.
@@ -65,16 +63,4 @@ fn write_number(number: u64, digits: usize, end: usize, buffer: &mut [u8]) -> us
 {
     let at = decimal::write_byte(b'/', end, buffer);
     decimal::write_digits(number, digits, at, buffer)
-}
-
-fn printed(bytes: usize) -> PrintAnswer
-    ensures { λ r. ⌜ printAnswer r ≡ answer bytes ⌝ }
-{
-    PrintAnswer::Length(bytes)
-}
-
-pub fn refused(number: u64) -> PrintAnswer
-    ensures { λ r. ⌜ printAnswer r ≡ Answer·refused number ⌝ }
-{
-    PrintAnswer::Refused(number)
 }

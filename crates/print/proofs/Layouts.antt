@@ -13,7 +13,7 @@ use Rattle.rules.specs.Partitions.{Partitions, totalOf}
 use Rattle.rules.specs.Print.{partitionOf, decodedIn}
 use Rattle.layouts.proofs.Slots.{slots-within}
 use Rattle.field_print.specs.Facts.{FieldsFacts}
-use Rattle.decode.proofs.Uses.{count-below}
+use Rattle.decode.proofs.Accepted.{count-below}
 
 -- the arrays of a layout in code have ten slots
 abbrev Slots : List ℕ → Type 0
@@ -34,6 +34,6 @@ fields-facts l c m o f h =
       count = h;
     }
 
-pub decoded-facts : (l : Layout) (p : Partitions) (e count : ℕ) → Slots (l .moduli) → Slots (l .offsets) → LayoutFacts l → PartitionsFacts l p → e ≤ totalOf p
+pub decoded-facts : (l : Layout) (p : Partitions) (e count : ℕ) → Slots (l .moduli) → Slots (l .offsets) → LayoutFacts l → PartitionsFacts (productOf l) p → e ≤ totalOf p
     → count ≡ decodedIn p e (partitionOf p e) → FieldsFacts count (moduliOf l) (offsetsOf l)
-decoded-facts l p e count m o f g held q = fields-facts l count m o f (count-below l p e f g held count q)
+decoded-facts l p e count m o f g held q = fields-facts l count m o f (count-below (productOf l) p e (f .product) g held count q)
