@@ -1,0 +1,100 @@
+-- The two definitions one after the other, by the ways out of the code.
+use Prim.Native.Nat.{ℕ, _≤_}
+use mathlib.Core.Path.{_≡_, refl, sym, _∙_}
+use mathlib.Core.List.{List}
+use lib.IntN.{ℤ}
+use Rattle.base.proofs.Tests.{by-test}
+use Rattle.rules.specs.declared.Layout.{Layout}
+use Rattle.rules.specs.declared.Refusal.{Refusal}
+use Rattle.rules.specs.declared.Reading.{Reading}
+use Rattle.rules.specs.declared.ReadAnswer.{ReadAnswer}
+use Rattle.rules.specs.declared.ReadAnswer.the-variants as Reads
+use Rattle.rules.specs.declared.TimeOfCount.{TimeOfCount}
+use Rattle.rules.specs.declared.TimeAnswer.{TimeAnswer}
+use Rattle.rules.specs.declared.TimeAnswer.the-variants as Times
+use Rattle.rules.specs.declared.TimedStamp.{TimedStamp}
+use Rattle.rules.specs.Answer.{Answer, answer, refused, unless, andThen, readAnswer, timeAnswer, timedStamp}
+use Rattle.rules.specs.Layout.{moduliOf, offsetsOf, productOf, unitOf}
+use Rattle.rules.specs.Partitions.{Partitions, totalOf}
+use Rattle.rules.specs.Segments.{Segments, segmentsOk}
+use Rattle.rules.specs.Facts.{LayoutFacts, SegmentsFacts}
+use Rattle.rules.specs.Stamp.{parseStamp, encode, readStamp}
+use Rattle.rules.specs.Time.{accepted, timeIn, timeOf}
+use Rattle.rules.specs.StampTime.{withTime, timeOfStamp}
+use Rattle.rules.proofs.Accepted.{segments-facts}
+use Rattle.rules.proofs.Answers.{unless-test}
+use Rattle.layouts.specs.declared.MeasureAnswer.{MeasureAnswer}
+use Rattle.layouts.specs.Measure.{measureAnswer, measureOf}
+use Rattle.segments.specs.declared.CheckAnswer.{CheckAnswer}
+use Rattle.segments.specs.declared.CheckAnswer.the-variants as Checks
+use Rattle.segments.specs.Rows.{checkAnswer, acceptedSegments}
+use Rattle.tables.specs.declared.Basis.{Basis}
+use Rattle.tables.specs.declared.Acceptance.{Acceptance}
+use Rattle.tables.specs.declared.Acceptance.the-variants as Accepts
+use Rattle.tables.specs.Accept.{acceptance, stampsBasis, BasisFacts}
+use Rattle.tables.proofs.Accepted.{stamps-refused, stamps-facts, stamps-accepted}
+use Rattle.tables.proofs.Guards.{then-unless}
+use Rattle.text.proofs.Calls.{stamp-refused, stamp-accepted}
+use Rattle.stamp_time.specs.Count.{timedCount}
+
+-- `timed`: the segments' check answered c
+module _ (unit total : ℕ) (g : Segments) (e : ℕ) (c : CheckAnswer) (v : checkAnswer c ≡ acceptedSegments unit total g) where
+  after-check : andThen (checkAnswer c) (λ _. andThen (timeIn unit total g e) (λ t. answer (timedStamp e (t .time)))) ≡ timedCount unit total g e
+  unfolding acceptedSegments timedCount andThen
+  after-check = rw v (then-unless 3 (segmentsOk unit total g) (answer tt) (λ _. andThen (timeIn unit total g e) (λ t. answer (timedStamp e (t .time)))))
+
+  pub segments-out : (k : Refusal) → c ≡ Checks.Refused k → refused k ≡ timedCount unit total g e
+  unfolding andThen
+  segments-out k h = rw h at after-check
+
+  module _ (h : c ≡ Checks.Accepted) where
+    pub rows : SegmentsFacts unit total g
+    unfolding acceptedSegments
+    rows = segments-facts unit total g (unless-test 3 (segmentsOk unit total g) (answer tt) tt (rw h at (sym v)))
+
+    module _ (a : TimeAnswer) (q : timeAnswer a ≡ timeIn unit total g e) where
+      after-time : andThen (timeAnswer a) (λ t. answer (timedStamp e (t .time))) ≡ timedCount unit total g e
+      unfolding andThen
+      after-time = rw q (rw h at after-check)
+
+      pub time-out : (k : Refusal) → a ≡ Times.Refused k → refused k ≡ timedCount unit total g e
+      unfolding andThen
+      time-out k w = rw w at after-time
+
+      pub time-given : (t : TimeOfCount) → a ≡ Times.Time t → answer (timedStamp e (t .time)) ≡ timedCount unit total g e
+      unfolding andThen
+      time-given t w = rw w at after-time
+
+module _ (l : Layout) (p : Partitions) (g : Segments) (s : List ℕ) where
+  -- what reading refuses is passed on
+  unread : (k : Refusal) → refused k ≡ readStamp l p s → refused k ≡ timeOfStamp l p g s
+  unfolding timeOfStamp andThen
+  unread k e = rw (← e)
+
+  read : (r : Reading) → answer r ≡ readStamp l p s → withTime l p g (r .count) ≡ timeOfStamp l p g s
+  unfolding timeOfStamp andThen
+  read r e = rw (← e)
+
+  module _ (m : MeasureAnswer) (w : measureAnswer m ≡ measureOf l) (q : Acceptance) (f : acceptance q ≡ andThen (measureAnswer m) (stampsBasis p)) where
+    pub tables-out : (k : Refusal) → q ≡ Accepts.Refused k → refused k ≡ timeOfStamp l p g s
+    tables-out k h = unread k (stamp-refused l m w p q f s k h)
+
+    module _ (b : Basis) (h : q ≡ Accepts.Accepted b) (a : ReadAnswer) (v : readAnswer a ≡ andThen (parseStamp (moduliOf l) (offsetsOf l) s) (encode p)) where
+      was-read : readAnswer a ≡ readStamp l p s
+      was-read = stamp-accepted l m w p q f b h s (readAnswer a) v
+
+      pub reading-out : (k : Refusal) → a ≡ Reads.Refused k → refused k ≡ timeOfStamp l p g s
+      reading-out k x = unread k (rw x at was-read)
+
+      timed-is : (e : ℕ) → timedCount (b .unit) (b .total) g e ≡ withTime l p g e
+      unfolding withTime timeOf accepted timedCount
+      timed-is e =
+          let n = stamps-facts l p m w q f b h in
+          rw (n .unit, n .total) (rw (← (stamps-accepted l p m w q f b h _ (unless 3 (segmentsOk (unitOf l) (totalOf p) g) (timeIn (unitOf l) (totalOf p) g e)) refl))
+          (sym (then-unless 3 (segmentsOk (unitOf l) (totalOf p) g) (timeIn (unitOf l) (totalOf p) g e) (λ t. answer (timedStamp e (t .time))))))
+
+      pub stamp-timed : (r : Reading) (x : Answer TimedStamp) → a ≡ Reads.Read r → x ≡ timedCount (b .unit) (b .total) g (r .count) → x ≡ timeOfStamp l p g s
+      stamp-timed r x y z = z ∙ timed-is (r .count) ∙ read r (rw y at was-read)
+
+    pub numbers : (b : Basis) → q ≡ Accepts.Accepted b → BasisFacts (b .unit) (b .total)
+    numbers b h = stamps-facts l p m w q f b h .numbers

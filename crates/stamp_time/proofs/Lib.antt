@@ -1,0 +1,2 @@
+-- Laws of a stamp with its time.
+pub mod Composed
