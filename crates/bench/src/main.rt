@@ -8,7 +8,9 @@ const MOST_ROWS: usize = 10000;
 
 fn main() {
     let timed = 1 < os::arg_count();
-    bench_stamps::bench(timed);
+    let mut texts = [0u8; 3584];
+    bench_stamps::fill(&mut texts);
+    bench_stamps::bench(timed, &texts);
     let mut counts = [0u64; MOST_ROWS];
     let mut times = [0i64; MOST_ROWS];
     let mut rates = [0u64; MOST_ROWS];
@@ -31,6 +33,14 @@ fn main() {
         often(timed, 1_000_000, 100),
         b"time-of-100",
         b"count-at-100",
+    );
+    rows::bench_stamps(
+        timed,
+        &texts,
+        &counts[0..100],
+        &times[0..100],
+        &rates[0..100],
+        often(timed, 1_000_000, 100),
     );
     let asked = often(timed, 10_000, 100);
     rows::bench(

@@ -8,7 +8,9 @@ use bench_report::line;
 use bench_report::mixed;
 use bench_report::next;
 use bench_report::scaled;
+use bench_stamps::TEXT;
 use rules::CountAnswer;
+use rules::StampAnswer;
 use rules::StepsBackAnswer;
 use rules::TimeAnswer;
 
@@ -92,8 +94,8 @@ fn times_of(counts: &[u64], times: &[i64], rates: &[u64], asked: u64) -> u64 {
 
 fn time_of(counts: &[u64], times: &[i64], rates: &[u64], encoded: u64) -> u64 {
     match time::time_of(layout(), &[0], &[LAST], counts, times, rates, encoded) {
-        TimeAnswer::Time(time) => signed::ordinal(time),
-        TimeAnswer::Refused(number) => number,
+        TimeAnswer::Time(found) => signed::ordinal(found.time),
+        TimeAnswer::Refused(refusal) => refusal.number,
     }
 }
 
@@ -113,8 +115,8 @@ fn counts_at(counts: &[u64], times: &[i64], rates: &[u64], asked: u64, most: u64
 
 fn count_at(counts: &[u64], times: &[i64], rates: &[u64], at: i64) -> u64 {
     match time::count_at(layout(), &[0], &[LAST], counts, times, rates, at) {
-        CountAnswer::Count(count) => count,
-        CountAnswer::Refused(number) => number,
+        CountAnswer::Count(found) => found.count,
+        CountAnswer::Refused(refusal) => refusal.number,
     }
 }
 
@@ -133,6 +135,40 @@ fn steps_back(counts: &[u64], times: &[i64], rates: &[u64]) -> u64 {
     match tables::steps_back(layout(), &[0], &[LAST], counts, times, rates) {
         StepsBackAnswer::Yes => 1,
         StepsBackAnswer::No => 2,
-        StepsBackAnswer::Refused(number) => number,
+        StepsBackAnswer::Refused(refusal) => refusal.number,
+    }
+}
+
+// A stamp to its count and time.
+pub fn bench_stamps(
+    timed: bool,
+    texts: &[u8],
+    counts: &[u64],
+    times: &[i64],
+    rates: &[u64],
+    asked: u64,
+) {
+    let from = libc::clock();
+    let mut sum: u64 = 0;
+    let mut x: u64 = 1;
+    let mut k: u64 = 0;
+    while k < asked {
+        x = next(x);
+        sum = mixed(sum, stamp_time(texts, (x % 256) as usize * TEXT, counts, times, rates));
+        k += 1;
+    }
+    line(b"stamp-time-100", asked, sum, timed, from);
+}
+
+fn stamp_time(texts: &[u8], at: usize, counts: &[u64], times: &[i64], rates: &[u64]) -> u64
+    requires { ⌜ at < 4096 ⌝ }
+{
+    let end = at + TEXT;
+    if texts.len() < end {
+        return 0;
+    }
+    match stamp_time::time_of_stamp(layout(), &[0], &[LAST], counts, times, rates, &texts[at..end]) {
+        StampAnswer::Stamp(stamp) => stamp.count ^ signed::ordinal(stamp.time),
+        StampAnswer::Refused(refusal) => refusal.number,
     }
 }

@@ -8,28 +8,26 @@ use bench_report::mixed;
 use bench_report::next;
 use bench_report::often;
 use bench_report::scaled;
-use rules::CountAnswer;
 use rules::PrintAnswer;
+use rules::ReadAnswer;
 
 const TEXTS: usize = 256;
 
-// A stamp `1/ddddd:dd:ddd`.
-const TEXT: usize = 14;
+// The bytes of a stamp `1/ddddd:dd:ddd`.
+pub const TEXT: usize = 14;
 
-pub fn bench(timed: bool) {
+pub fn bench(timed: bool, texts: &[u8]) {
     let asked = often(timed, 5_000_000, 1_000);
-    let mut texts = [0u8; 3584];
-    fill(&mut texts);
     let from = libc::clock();
-    let sum = read_stamps(&texts, asked);
+    let sum = read_stamps(texts, asked);
     line(b"read-stamp", asked, sum, timed, from);
     let from = libc::clock();
     let sum = print_stamps(asked);
     line(b"print-stamp", asked, sum, timed, from);
 }
 
-// Stamps of the first partition, one behind the other.
-fn fill(texts: &mut [u8]) {
+// Stamps of the first partition.
+pub fn fill(texts: &mut [u8]) {
     let mut x: u64 = 1;
     let mut i = 0;
     while i < TEXTS {
@@ -65,8 +63,8 @@ fn read_stamp(texts: &[u8], at: usize) -> u64
         return 0;
     }
     match text::read_stamp(layout(), &[0, 0], &[LAST, LAST], &texts[at..end]) {
-        CountAnswer::Count(count) => count,
-        CountAnswer::Refused(number) => number,
+        ReadAnswer::Read(reading) => reading.count,
+        ReadAnswer::Refused(refusal) => refusal.number,
     }
 }
 
@@ -93,7 +91,7 @@ fn mark(printed: PrintAnswer, buffer: &[u8]) -> u64
 {
     match printed {
         PrintAnswer::Length(length) => last_of(buffer, length),
-        PrintAnswer::Refused(number) => number,
+        PrintAnswer::Refused(refusal) => refusal.number,
     }
 }
 

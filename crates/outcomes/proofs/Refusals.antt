@@ -5,6 +5,7 @@ use mathlib.Core.Bool.{Bool, true, false}
 use mathlib.Core.List.{List, [], _∷_}
 use mathlib.Core.Option.{Option, none, some}
 use lib.IntN.{ℤ}
+use lib.Ieee.{Float}
 use lib.Dec.{leb}
 use lib.ListN.{length, take, drop, length-take}
 use borrow.Author.Tests.{leb-true, le-leb}
@@ -24,6 +25,7 @@ use Rattle.rules.specs.Stamp.{Parsed, named, unnamed, readStamp, parseStamp, pa
 use Rattle.rules.specs.Message.{readMessage, messageOk, textLength, textIn}
 use Rattle.rules.specs.Print.{printCount, printStamp, fitting}
 use Rattle.rules.specs.Time.{timeOf, timeIn, timeOn, countAt, countIn, countOn, notBeyond, stepsBackIn, accepted, segmentOf, segmentAt}
+use Rattle.rules.specs.Doubles.{finiteAnswer, forwardDouble, backDouble}
 use Rattle.rules.specs.StampTime.{withTime, timeOfStamp}
 use Rattle.rules.proofs.Answers.{not-answer}
 use Rattle.outcomes.specs.Refusals.{
@@ -36,6 +38,7 @@ use Rattle.outcomes.specs.Refusals.{
   countAtRefusals,
   timeOfStampRefusals,
   stepsBackRefusals,
+  doubleRefusals,
   OnlyRefuses,
   Refusals,
 }
@@ -150,8 +153,16 @@ stamp-time-only l p g s =
     then ks _ _ (stamp-only ks refl refl refl refl refl refl refl refl refl p l s (parse-only ks refl refl refl refl refl refl _ _ s))
     (λ r h. then ks _ _ (accepted-only ks refl refl refl l p g _ (time-within ks refl _ _ g _ (stamp-within l p s r h))) (λ t _. answers ks _))
 
+fifteen : {A : Type 0} (b : Bool) (a : Answer A) → OnlyRefuses doubleRefusals a → OnlyRefuses doubleRefusals (unless 15 b a)
+unfolding doubleRefusals among
+fifteen b a h = rung doubleRefusals 15 b a refl h
+
+double-result : (x : Float) → OnlyRefuses doubleRefusals (finiteAnswer x)
+unfolding finiteAnswer
+double-result x = fifteen _ _ (answers doubleRefusals x)
+
 pub only-those : Refusals
-unfolding readText parseText printCount printStamp timeOf timeIn countAt countIn stepsBackIn textRefusals stampRefusals printCountRefusals printStampRefusals timeOfRefusals countAtRefusals stepsBackRefusals among
+unfolding forwardDouble backDouble readText parseText printCount printStamp timeOf timeIn countAt countIn stepsBackIn textRefusals stampRefusals printCountRefusals printStampRefusals timeOfRefusals countAtRefusals stepsBackRefusals among
 only-those =
     record {
       text = λ l s. rung textRefusals 1 _ _ refl (rung textRefusals 4 _ _ refl (bytes-only textRefusals refl refl refl refl refl _ _ s));
@@ -163,4 +174,6 @@ only-those =
       count-at = λ l p g t. accepted-only countAtRefusals refl refl refl l p g _ (rung countAtRefusals 14 _ _ refl (count-only _ _ g t (segmentAt (g .times) t)));
       time-of-stamp = stamp-time-only;
       steps-back = λ l p g. accepted-only stepsBackRefusals refl refl refl l p g _ (answers stepsBackRefusals _);
+      forward = λ s msf c. fifteen _ _ (fifteen _ _ (fifteen _ _ (fifteen _ _ (fifteen _ _ (double-result _)))));
+      back = λ s msf t. fifteen _ _ (fifteen _ _ (fifteen _ _ (fifteen _ _ (fifteen _ _ (double-result _)))));
     }

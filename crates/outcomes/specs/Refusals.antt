@@ -4,8 +4,10 @@ use mathlib.Core.Path.{_≡_}
 use mathlib.Core.Bool.{true}
 use mathlib.Core.List.{List, [], _∷_}
 use lib.IntN.{ℤ}
+use lib.Ieee.{Float}
 use Rattle.base.specs.Scans.{among}
 use Rattle.rules.specs.declared.Layout.{Layout}
+use Rattle.rules.specs.declared.DoubleSegment.{DoubleSegment}
 use Rattle.rules.specs.declared.Refusal.{Refusal}
 use Rattle.rules.specs.Answer.{Answer, refused}
 use Rattle.rules.specs.Partitions.{Partitions}
@@ -15,6 +17,7 @@ use Rattle.rules.specs.Stamp.{readStamp}
 use Rattle.rules.specs.Message.{readMessage}
 use Rattle.rules.specs.Print.{printCount, printStamp}
 use Rattle.rules.specs.Time.{timeOf, countAt, stepsBackIn}
+use Rattle.rules.specs.Doubles.{forwardDouble, backDouble}
 use Rattle.rules.specs.StampTime.{timeOfStamp}
 
 unfoldable pub textRefusals : List ℕ
@@ -48,6 +51,10 @@ timeOfStampRefusals = 1 ∷ 2 ∷ 4 ∷ 5 ∷ 6 ∷ 7 ∷ 8 ∷ 9 ∷ 10 ∷ 11 
 unfoldable pub stepsBackRefusals : List ℕ
 stepsBackRefusals = 1 ∷ 2 ∷ 3 ∷ []
 
+-- the double form
+unfoldable pub doubleRefusals : List ℕ
+doubleRefusals = 15 ∷ []
+
 -- every refusal of a call is one of ks
 abbrev pub OnlyRefuses : {A : Type 0} → List ℕ → Answer A → Type 0
 OnlyRefuses ks a = (k : Refusal) → a ≡ refused k → among (k .number) ks ≡ true
@@ -62,3 +69,5 @@ pub record Refusals : Type 0 where
   pub count-at : (l : Layout) (p : Partitions) (g : Segments) (t : ℤ) → OnlyRefuses countAtRefusals (countAt l p g t)
   pub time-of-stamp : (l : Layout) (p : Partitions) (g : Segments) (s : List ℕ) → OnlyRefuses timeOfStampRefusals (timeOfStamp l p g s)
   pub steps-back : (l : Layout) (p : Partitions) (g : Segments) → OnlyRefuses stepsBackRefusals (stepsBackIn l p g)
+  pub forward : (s : DoubleSegment) (msf c : ℕ) → OnlyRefuses doubleRefusals (forwardDouble s msf c)
+  pub back : (s : DoubleSegment) (msf : ℕ) (t : Float) → OnlyRefuses doubleRefusals (backDouble s msf t)

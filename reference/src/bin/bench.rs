@@ -112,6 +112,14 @@ fn main() {
         line(names[1], many(times, 100), timed, |x| {
             count_at(unknown(&LAYOUT), one, segments, scaled(x, latest) as i64).unwrap()
         });
+        if n == 100 {
+            line("stamp-time-100", many(times, 100), timed, |x| {
+                let at = (x as usize % TEXTS) * 14;
+                let count = read_stamp(unknown(&LAYOUT), one, &texts[at..at + 14]).unwrap();
+                let time = time_of(unknown(&LAYOUT), one, segments, count).unwrap();
+                count ^ (time as u64) ^ (1 << 63)
+            });
+        }
         if n == 10_000 {
             line("steps-back-10000", many(times, 100), timed, |_| {
                 if steps_back(unknown(&LAYOUT), one, segments).unwrap() {
