@@ -4,9 +4,8 @@ ghost use mathlib.Core.Bool.{cond};
 ghost use Prim.Native.Nat.{_≤_};
 ghost use lib.ListN.{length, take};
 ghost use Rattle.rules.specs.Examples.{layoutA};
-ghost use Rattle.lines.specs.Lines.{lineBuffer};
 ghost use Rattle.lines.specs.Steps.{lineLeft};
-ghost use Rattle.stamp.specs.Stamps.{stamped, stampOf, timed};
+ghost use Rattle.stamp.specs.Stamps.{stamped, stampOf, timed, lineBuffer};
 use answers::put_refused;
 use answers::put_stamp;
 use libc::STDIN_FILENO;
@@ -65,7 +64,7 @@ fn answer_lines(chunk: &[u8], line: &mut [u8], kept: usize) -> usize
     requires { ⌜ length (now line) ≡ lineBuffer ⌝ }
     requires { ⌜ kept ≤ lineBuffer ⌝ }
     ensures { λ r. ⌜ r ≤ lineBuffer ⌝ }
-    ensures { λ r. ⌜ take r (now (line .exit)) ≡ lineLeft (take kept (now (line .entry))) (now (chunk .entry)) ⌝ }
+    ensures { λ r. ⌜ take r (now (line .exit)) ≡ lineLeft lineBuffer (take kept (now (line .entry))) (now (chunk .entry)) ⌝ }
 {
     let mut buffer = io::buffer();
     let out: &mut [u8] = &mut buffer;
