@@ -2,3 +2,4 @@
 mod DoubleBits
 mod Lines
 mod OneDigit
+pub mod WordCases

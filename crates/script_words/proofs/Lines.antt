@@ -1,8 +1,9 @@
 -- A line's first byte and its name.
-use Prim.Native.Nat.{ℕ, _+_, _-_}
-use mathlib.Core.Path.{_≡_, refl, sym, subst}
+use Prim.Native.Nat.{ℕ, _-_}
+use mathlib.Core.Path.{_≡_, refl, sym}
 use mathlib.Core.Bool.{true, false, true≢false}
 use mathlib.Core.List.{List, [], _∷_}
+use native.Mathlib.Nat.{sub-zero}
 use native.Mathlib.Omega.{arith}
 use lib.Dec.{eqb}
 use lib.ListN.{length, getD, take, drop}
@@ -24,8 +25,5 @@ by-first (first ∷ rest) h = refl
 pub no-word : (s t : List ℕ) → false ≡ true → s ≡ t
 no-word s t h = absurd (true≢false (sym h))
 
-pub name-here : (word names : List ℕ) (from : ℕ) → word ≡ take (from + length word - from) (drop from names) → word ≡ take (length word) (drop from names)
-name-here word names from h = subst (λ (m : ℕ). word ≡ take m (drop from names)) all h
-  where
-    all : from + length word - from ≡ length word
-    all = omega arith
+pub name-here : (word row : List ℕ) → word ≡ take (length word - 0) (drop 0 row) → word ≡ take (length word) row
+name-here word row h = rw sub-zero at h

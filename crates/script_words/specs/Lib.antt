@@ -1,3 +1,3 @@
 -- What the contracts cite.
 pub mod Lines
-pub mod Places
+pub mod Words

@@ -1,86 +1,156 @@
-// The words of a script's line. The first is a name, which says the form of those behind it; one blank stands before each.
+// The lines of a script. The first word is a name, which says the forms of the words behind it; one blank stands before each.
 ghost use mathlib.Core.Path.{_≡_};
 ghost use mathlib.Core.Bool.{true};
-ghost use Prim.Native.Nat.{_+_, _*_, _≤_};
-ghost use lib.ListN.{length, take, drop};
+ghost use Prim.Native.Nat.{_≤_, _<_};
+ghost use lib.ListN.{length, take};
 ghost use Rattle.script_words.specs.Lines.{passedOver};
-ghost use Rattle.script_words.specs.Places.{nowhere};
+ghost use Rattle.script_words.specs.Words.{UpTo, EndsBy, RowBelow, greatest};
+use numbers::Word;
+use rules::Layout;
 
-// The names, each in 13 bytes.
-const WIDTH: usize = 13;
+pub mod numbers;
+pub mod hex;
 
-const NAMES: [u8; 234] =
-    *b"start        end          count        rate         time         layout       partitions   segments     steps-back   time-of      count-at     print-count  print-stamp  forward      back         read-text    read-stamp   read-message ";
+// A line that changes the tables.
+pub enum TableLine {
+    Layout,
+    Partitions,
+    Start,
+    End,
+    Segments,
+    Count,
+    Time,
+    Rate,
+}
 
-// The names' places in that list.
-pub const TIME: usize = 4;
+// A line that has an answer.
+pub enum Question {
+    ReadText,
+    ReadStamp,
+    ReadMessage,
+    PrintCount,
+    PrintStamp,
+    TimeOf,
+    CountAt,
+    StepsBack,
+    Forward,
+    Back,
+}
 
-pub const LAYOUT: usize = 5;
+pub enum Line {
+    Table(TableLine),
+    Ask(Question),
+    Comment,
+    Bad,
+}
 
-pub const PARTITIONS: usize = 6;
+// A line, and the place where its numbers end: its word of bytes, if it has one, stands there.
+pub struct ReadLine {
+    pub line: Line,
+    pub rest: usize,
+}
 
-pub const STEPS_BACK: usize = 8;
+// As many numbers as the longest line has, the layout's.
+pub const MOST_NUMBERS: usize = 2 + 2 * Layout::MOST_FIELDS;
 
-pub const TIME_OF: usize = 9;
+pub type Numbers = [u64; MOST_NUMBERS];
 
-pub const PRINT_COUNT: usize = 11;
+// Room for a name and a blank.
+const NAME_ROOM: usize = 13;
 
-pub const FORWARD: usize = 13;
+const LINES: usize = 18;
 
-pub const READ_TEXT: usize = 15;
+type Row = [u8; NAME_ROOM + MOST_NUMBERS];
 
-pub const READ_STAMP: usize = 16;
-
-pub const NO_NAME: usize = 18;
-
-// The forms of a word: a number from 0 to 2^64 - 1; a time from -2^63 to 2^63 - 1, as its ordinal; a double's bits.
-const DECIMAL: u64 = 1;
-
-const BITS: u64 = 3;
-
-// The forms of each name's words, two bits for a word, the first word's lowest. Words of bytes are read apart.
-const FORMS: [u64; 18] = [
-    0b01,
-    0b01,
-    0b01,
-    0b01,
-    0b10,
-    0b01_01_01_01_01_01_01_01_01_01_01_01_01_01_01_01_01_01_01_01_01_01,
-    0,
-    0,
-    0,
-    0b01,
-    0b10,
-    0b01_01_01,
-    0b01_01_01,
-    0b01_01_11_11_11,
-    0b11_01_11_11_11,
-    0,
-    0,
-    0,
+// Each line's name, and a letter for the form of each word behind it:
+//     n  a number from 0 to 2^64 - 1
+//     b  a number from 0 to 255
+//     l  the length of a lent buffer, 0 to 256
+//     t  a time from -2^63 to 2^63 - 1, which is read as its ordinal
+//     d  the 16 hexadecimal digits of a double's bits
+//     h  bytes in hexadecimal; always the last
+const ROWS: [Row; LINES] = [
+    *b"layout       nbnnnnnnnnnnnnnnnnnnnn",
+    *b"partitions                         ",
+    *b"start        n                     ",
+    *b"end          n                     ",
+    *b"segments                           ",
+    *b"count        n                     ",
+    *b"time         t                     ",
+    *b"rate         n                     ",
+    *b"read-text    h                     ",
+    *b"read-stamp   h                     ",
+    *b"read-message h                     ",
+    *b"print-count  nbl                   ",
+    *b"print-stamp  nbl                   ",
+    *b"time-of      n                     ",
+    *b"count-at     t                     ",
+    *b"steps-back                         ",
+    *b"forward      dddnn                 ",
+    *b"back         dddnd                 ",
 ];
 
-// No place of any line, and no word behind it is good.
-const NOWHERE: usize = usize::MAX;
+fn line_of(row: usize) -> Line {
+    match row {
+        0 => Line::Table(TableLine::Layout),
+        1 => Line::Table(TableLine::Partitions),
+        2 => Line::Table(TableLine::Start),
+        3 => Line::Table(TableLine::End),
+        4 => Line::Table(TableLine::Segments),
+        5 => Line::Table(TableLine::Count),
+        6 => Line::Table(TableLine::Time),
+        7 => Line::Table(TableLine::Rate),
+        8 => Line::Ask(Question::ReadText),
+        9 => Line::Ask(Question::ReadStamp),
+        10 => Line::Ask(Question::ReadMessage),
+        11 => Line::Ask(Question::PrintCount),
+        12 => Line::Ask(Question::PrintStamp),
+        13 => Line::Ask(Question::TimeOf),
+        14 => Line::Ask(Question::CountAt),
+        15 => Line::Ask(Question::StepsBack),
+        16 => Line::Ask(Question::Forward),
+        17 => Line::Ask(Question::Back),
+        _ => Line::Bad,
+    }
+}
 
-// The ordinal of the time 0.
-const ZERO_TIME: u64 = 0x8000_0000_0000_0000;
+const LAST_WORD: u8 = b'h';
 
-// A double's sign, and the bits of infinity.
-const SIGN: u64 = 0x8000_0000_0000_0000;
+const NO_WORD: u8 = b' ';
 
-const INFINITY: u64 = 0x7ff0_0000_0000_0000;
+enum Named {
+    Row(usize),
+    Nothing,
+}
 
-// A line's numbers, as many as a layout's line has.
-pub type Numbers = [u64; 22];
+// The place after a line's numbers.
+enum Words {
+    End(usize),
+    Bad,
+}
 
-struct Number {
-    value: u64,
-    next: usize,
+// What the line is; its numbers are put into `numbers`. A line whose words have not its name's forms is bad.
+pub fn read(line: &[u8], numbers: &mut Numbers) -> ReadLine
+    ensures { λ r. ⌜ r .rest ≤ length (now (line .entry)) ⌝ }
+{
+    if passed_over(line) {
+        return alone(Line::Comment);
+    }
+    let at = bytes::scan::find(line, 0, line.len(), b' ');
+    match row_named(&line[0..at]) {
+        Named::Row(row) => read_row(line, at, row, numbers),
+        Named::Nothing => alone(Line::Bad),
+    }
+}
+
+fn alone(line: Line) -> ReadLine
+    ensures { λ r. ⌜ r .rest ≡ 0 ⌝ }
+{
+    ReadLine { line, rest: 0 }
 }
 
 // An empty line, and a line that begins with `#`.
-pub fn passed_over(line: &[u8]) -> bool
+fn passed_over(line: &[u8]) -> bool
     ensures { λ r. ⌜ r ≡ passedOver (now (line .entry)) ⌝ }
 {
     if line.len() == 0 {
@@ -89,246 +159,110 @@ pub fn passed_over(line: &[u8]) -> bool
     line[0] == b'#'
 }
 
-// The place of the line's name among the names; its numbers are put into `numbers`. A line whose words have not its name's forms
-// has no name.
-pub fn read(line: &[u8], numbers: &mut Numbers) -> usize
-    ensures { λ r. ⌜ r ≤ 18 ⌝ }
-{
-    let at = bytes::scan::find(line, 0, line.len(), b' ');
-    let name = name_of(&line[0..at], &NAMES);
-    if name == NO_NAME {
-        return name;
-    }
-    if name < READ_TEXT {
-        if read_numbers(line, at, FORMS[name], numbers) != line.len() {
-            return NO_NAME;
-        }
-    }
-    name
-}
-
-fn name_of(word: &[u8], names: &[u8]) -> usize
-    ensures { λ r. ⌜ r ≤ 18 ⌝ }
+fn row_named(word: &[u8]) -> Named
+    ensures { λ r. ⌜ RowBelow 18 r ⌝ }
 {
     let mut i = 0;
-    while i < NO_NAME {
-        if is_name(word, names, i) {
-            return i;
+    while i < LINES {
+        let row = ROWS[i];
+        if is_name(word, &row) {
+            return Named::Row(i);
         }
         i += 1;
     }
-    i
+    Named::Nothing
 }
 
-fn is_name(word: &[u8], names: &[u8], i: usize) -> bool
-    requires { ⌜ i ≤ 17 ⌝ }
-    ensures { λ r. ⌜ (r ≡ true → now (word .entry) ≡ take (length (now (word .entry))) (drop (13 * i) (now (names .entry)))) ⌝ }
+// The row begins with the word and a blank.
+fn is_name(word: &[u8], row: &Row) -> bool
+    ensures { λ r. ⌜ (r ≡ true → now (word .entry) ≡ take (length (now (word .entry))) (now (row .entry))) ⌝ }
 {
-    if WIDTH <= word.len() {
+    let words = &row[..];
+    let end = word.len();
+    if words.len() <= end {
         return false;
     }
-    let from = WIDTH * i;
-    let end = from + word.len();
-    if names.len() <= end {
+    if words[end] != b' ' {
         return false;
     }
-    if names[end] != b' ' {
-        return false;
-    }
-    check::same(word, &names[from..end])
+    check::same(word, &words[0..end])
 }
 
-// Reads words of the forms; the place after them.
-fn read_numbers(line: &[u8], at: usize, forms: u64, numbers: &mut [u64]) -> usize
-    ensures { λ r. ⌜ at ≤ r ⌝ }
+fn read_row(line: &[u8], at: usize, row: usize, numbers: &mut Numbers) -> ReadLine
+    requires { ⌜ at ≤ length (now line) ⌝ }
+    requires { ⌜ row < 18 ⌝ }
+    ensures { λ r. ⌜ r .rest ≤ length (now (line .entry)) ⌝ }
+{
+    let words = ROWS[row];
+    match read_words(line, at, forms(&words), numbers) {
+        Words::End(place) => ReadLine {
+            line: line_of(row),
+            rest: place,
+        },
+        Words::Bad => alone(Line::Bad),
+    }
+}
+
+fn forms(row: &Row) -> &[u8]
+    ensures { λ r. ⌜ length (now r) ≡ 22 ⌝ }
+{
+    let words = &row[..];
+    &words[NAME_ROOM..]
+}
+
+// Reads words of the forms up to a word of bytes, or to the line's end.
+fn read_words(line: &[u8], at: usize, forms: &[u8], numbers: &mut [u64]) -> Words
+    requires { ⌜ at ≤ length (now line) ⌝ }
+    requires { ⌜ length (now forms) ≤ length (now numbers) ⌝ }
+    ensures { λ r. ⌜ EndsBy (length (now (line .entry))) r ⌝ }
 {
     let mut place = at;
-    let mut left = forms;
     let mut i = 0;
-    while i < numbers.len() {
-        if left == 0 {
-            return place;
+    while i < forms.len() {
+        let form = forms[i];
+        if form == LAST_WORD {
+            return Words::End(place);
         }
-        let number = number_at(line, place, left % 4);
-        numbers[i] = number.value;
-        place = number.next;
-        left /= 4;
+        if form == NO_WORD {
+            return ended(line, place);
+        }
+        let Word::Number(value, next) = word_at(line, place, form) else {
+            return Words::Bad;
+        };
+        numbers[i] = value;
+        place = next;
         i += 1;
     }
-    place
+    ended(line, place)
 }
 
-fn number_at(line: &[u8], at: usize, form: u64) -> Number
-    ensures { λ r. ⌜ at ≤ r .next ⌝ }
+// No word stands behind the numbers.
+fn ended(line: &[u8], place: usize) -> Words
+    ensures { λ r. ⌜ EndsBy (length (now (line .entry))) r ⌝ }
 {
-    let from = after_blank(line, at);
-    if form == DECIMAL {
-        return digits(line, from, 10, u64::MAX, 1);
+    if place == line.len() {
+        return Words::End(place);
     }
-    if form == BITS {
-        return bits(line, from);
-    }
-    time(line, from)
+    Words::Bad
 }
 
-// The ordinal of a time, `-` in front of one below 0.
-fn time(line: &[u8], from: usize) -> Number
-    ensures { λ r. ⌜ from ≤ r .next ⌝ }
+// The word of this form behind the one blank at `at`.
+fn word_at(line: &[u8], at: usize, form: u8) -> Word
+    ensures { λ r. ⌜ UpTo (greatest form) (length (now (line .entry))) r ⌝ }
 {
-    if from < line.len() {
-        if line[from] == b'-' {
-            let number = digits(line, from + 1, 10, ZERO_TIME, 1);
-            return Number {
-                value: ZERO_TIME - number.value,
-                next: number.next,
-            };
-        }
+    if line.len() <= at {
+        return Word::Bad;
     }
-    let number = digits(line, from, 10, ZERO_TIME - 1, 1);
-    Number {
-        value: ZERO_TIME + number.value,
-        next: number.next,
+    if line[at] != b' ' {
+        return Word::Bad;
     }
-}
-
-// The 16 hexadecimal digits of a double's bits.
-fn bits(line: &[u8], from: usize) -> Number
-    ensures { λ r. ⌜ from ≤ r .next ⌝ }
-{
-    if line.len() / 16 < 1 {
-        return nothing();
+    let from = at + 1;
+    match form {
+        b'n' => numbers::decimal(line, from, u64::MAX),
+        b'b' => numbers::decimal(line, from, 255),
+        b'l' => numbers::decimal(line, from, 256),
+        b't' => numbers::time(line, from),
+        b'd' => numbers::bits(line, from),
+        _ => Word::Bad,
     }
-    if line.len() - 16 < from {
-        return nothing();
-    }
-    digits(&line[0..from + 16], from, 16, u64::MAX, 16)
-}
-
-// The number up to `limit` that the digits from `from` on spell, at least `least`.
-fn digits(line: &[u8], from: usize, base: u64, limit: u64, least: usize) -> Number
-    requires { ⌜ (10 ≤ base) × (base ≤ 16) ⌝ }
-    requires { ⌜ (16 ≤ limit) × (limit ≤ 18446744073709551615) ⌝ }
-    ensures { λ r. ⌜ (from ≤ r .next) × (r .value ≤ limit) ⌝ }
-{
-    let mut value: u64 = 0;
-    let mut i = from;
-    while i < line.len() {
-        let d = digit(line[i]);
-        if base <= d {
-            return spelled(from, i, value, least);
-        }
-        if (limit - d) / base < value {
-            return nothing();
-        }
-        value = value * base + d;
-        i += 1;
-    }
-    spelled(from, i, value, least)
-}
-
-// At least so many digits stand before `next`.
-fn spelled(from: usize, next: usize, value: u64, least: usize) -> Number
-    requires { ⌜ from ≤ next ⌝ }
-    ensures { λ r. ⌜ (next ≤ r .next) × (r .value ≤ value) ⌝ }
-{
-    if next - from < least {
-        return nothing();
-    }
-    Number { value, next }
-}
-
-fn nothing() -> Number
-    ensures { λ r. ⌜ (r .value ≡ 0) × (r .next ≡ nowhere) ⌝ }
-{
-    Number {
-        value: 0,
-        next: NOWHERE,
-    }
-}
-
-// The value of a hexadecimal digit in lower case, 16 where the byte is none.
-fn digit(byte: u8) -> u64
-    ensures { λ r. ⌜ r ≤ 16 ⌝ }
-{
-    if b'0' <= byte {
-        if byte <= b'9' {
-            return (byte - b'0') as u64;
-        }
-    }
-    if b'a' <= byte {
-        if byte <= b'f' {
-            return (byte - b'a' + 10) as u64;
-        }
-    }
-    16
-}
-
-// The place after the one blank at `at`.
-fn after_blank(line: &[u8], at: usize) -> usize
-    ensures { λ r. ⌜ at ≤ r ⌝ }
-{
-    if at < line.len() {
-        if line[at] == b' ' {
-            return at + 1;
-        }
-    }
-    NOWHERE
-}
-
-// How many bytes the line's one word behind its name spells, one more than `out` holds where it spells none or too many; they
-// are put at the front of `out`. No bytes at all is `.`.
-pub fn hex_bytes(line: &[u8], out: &mut [u8]) -> usize
-    ensures { λ r. ⌜ r ≤ length (now (out .entry)) + 1 ⌝ }
-{
-    let at = bytes::scan::find(line, 0, line.len(), b' ');
-    let rest = line.len() - at;
-    if rest == 2 {
-        if line[at + 1] == b'.' {
-            return 0;
-        }
-    }
-    if rest < 2 {
-        return out.len() + 1;
-    }
-    pairs(&line[at + 1..], out)
-}
-
-// Two hexadecimal digits for each byte.
-fn pairs(word: &[u8], out: &mut [u8]) -> usize
-    ensures { λ r. ⌜ r ≤ length (now (out .entry)) + 1 ⌝ }
-{
-    let n = word.len() / 2;
-    if n * 2 != word.len() {
-        return out.len() + 1;
-    }
-    if out.len() < n {
-        return out.len() + 1;
-    }
-    let mut i = 0;
-    while i < n {
-        let byte = pair(word[2 * i], word[2 * i + 1]);
-        if 255 < byte {
-            return out.len() + 1;
-        }
-        out[i] = byte as u8;
-        i += 1;
-    }
-    n
-}
-
-// The byte that two hexadecimal digits spell, above 255 where they are none.
-fn pair(high: u8, low: u8) -> u64 {
-    let low = digit(low);
-    if 15 < low {
-        return 256;
-    }
-    digit(high) * 16 + low
-}
-
-// Every pattern above that of infinity, the sign aside, means NaN.
-pub fn double_of(pattern: u64) -> f64 {
-    if INFINITY < pattern % SIGN {
-        return 0.0 / 0.0;
-    }
-    f64::from_bits(pattern)
 }

@@ -1,7 +1,7 @@
 use borrow.Author.Needs.{needs}
 use Rattle.script_words.proofs.DoubleBits.{up-to-infinity}
-use Rattle.script_words.proofs.double_of.Statement.{statement}
-use Rattle.script_words.proofs.double_of.Tie as tie
+use Rattle.script_words.proofs.numbers.double_of.Statement.{statement}
+use Rattle.script_words.proofs.numbers.double_of.Tie as tie
 
 float-from-bits-result : tie.Need-float-from-bits-result
 float-from-bits-result c = up-to-infinity (c .before .args .pattern) (c .if1 .left)
