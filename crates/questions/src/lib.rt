@@ -10,7 +10,7 @@ use script_words::hex::ByteWord;
 use script_words::hex::read_bytes;
 use script_words::numbers::byte_of;
 use script_words::numbers::double_of;
-use script_words::numbers::length_of;
+use script_words::numbers::lent_length;
 
 // The most bytes of a text or a message to read.
 const MOST_BYTES: usize = 2000;
@@ -67,7 +67,7 @@ fn read_text(line: &[u8], rest: usize, layout: Layout, out: &mut [u8], place: us
     let mut bytes = [0u8; MOST_BYTES];
     match read_bytes(line, rest, &mut bytes) {
         ByteWord::Length(n) => {
-            let answer = text::read_text(layout, front(&bytes, n));
+            let answer = text::read_text(layout, first_bytes(&bytes, n));
             answers::put_count(out, place, answer)
         }
         ByteWord::Bad => answers::put_bad(out, place),
@@ -89,7 +89,7 @@ fn read_stamp(
     let mut bytes = [0u8; MOST_BYTES];
     match read_bytes(line, rest, &mut bytes) {
         ByteWord::Length(n) => {
-            let answer = text::read_stamp(layout, starts, ends, front(&bytes, n));
+            let answer = text::read_stamp(layout, starts, ends, first_bytes(&bytes, n));
             answers::put_count(out, place, answer)
         }
         ByteWord::Bad => answers::put_bad(out, place),
@@ -111,14 +111,14 @@ fn read_message(
     let mut bytes = [0u8; MOST_BYTES];
     match read_bytes(line, rest, &mut bytes) {
         ByteWord::Length(n) => {
-            let answer = message::read_message(layout, starts, ends, front(&bytes, n));
+            let answer = message::read_message(layout, starts, ends, first_bytes(&bytes, n));
             answers::put_count(out, place, answer)
         }
         ByteWord::Bad => answers::put_bad(out, place),
     }
 }
 
-fn front(bytes: &[u8; MOST_BYTES], n: usize) -> &[u8]
+fn first_bytes(bytes: &[u8; MOST_BYTES], n: usize) -> &[u8]
     requires { ⌜ n ≤ 2000 ⌝ }
 {
     let all = &bytes[..];
@@ -129,7 +129,7 @@ fn front(bytes: &[u8; MOST_BYTES], n: usize) -> &[u8]
 fn print_count(numbers: &Numbers, layout: Layout, out: &mut [u8], place: usize) -> usize
     ensures { λ r. ⌜ Put place (now (out .entry)) r ⌝ }
 {
-    let size = length_of(numbers[2]);
+    let size = lent_length(numbers[2]);
     let mut buffer = [byte_of(numbers[1]); MOST_LENT];
     let lent = &mut buffer[0..size];
     let answer = print::print_count(layout, numbers[0], lent);
@@ -147,7 +147,7 @@ fn print_stamp(
 ) -> usize
     ensures { λ r. ⌜ Put place (now (out .entry)) r ⌝ }
 {
-    let size = length_of(numbers[2]);
+    let size = lent_length(numbers[2]);
     let mut buffer = [byte_of(numbers[1]); MOST_LENT];
     let lent = &mut buffer[0..size];
     let answer = print::print_stamp(layout, starts, ends, numbers[0], lent);

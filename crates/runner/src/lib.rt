@@ -36,8 +36,8 @@ pub struct Places {
 
 pub fn run() {
     let mut layout = [0u64; script_words::MOST_NUMBERS];
-    let mut sizes = [0usize; 5];
-    let mut lists = [0u64; script_tables::MOST_NUMBERS];
+    let mut sizes = [0usize; script_tables::LIST_COUNT];
+    let mut lists = [0u64; script_tables::LISTS_ROOM];
     let mut times = [0i64; MOST_ENTRIES];
     let mut line = [0u8; LONGEST_LINE + 1];
     let kept = answer_input(&mut line, &mut layout, &mut sizes, &mut lists, &mut times);
@@ -134,7 +134,7 @@ fn settle(
     let n = step.kept;
     if step.ended {
         let from = answers::with_room(out, at, LONGEST_ANSWER);
-        let place = take_line(&line[0..n], layout, sizes, lists, times, out, from);
+        let place = answer_line(&line[0..n], layout, sizes, lists, times, out, from);
         return Places {
             kept: 0,
             out: place,
@@ -154,12 +154,12 @@ fn answer_last(
 {
     let mut buffer = [0u8; LONGEST_ANSWER];
     let out: &mut [u8] = &mut buffer;
-    let place = take_line(line, layout, sizes, lists, times, out, 0);
+    let place = answer_line(line, layout, sizes, lists, times, out, 0);
     answers::write_out(out, place);
 }
 
 // Changes the tables as the line says, or puts its answer into the output, and answers the place after it.
-fn take_line(
+fn answer_line(
     line: &[u8],
     layout: &mut Numbers,
     sizes: &mut Sizes,
@@ -179,16 +179,34 @@ fn take_line(
     let rest = read.rest;
     let what = read.line;
     match what {
-        Line::Table(table) => change(table, &numbers, layout, sizes, lists, times, out, place),
-        Line::Ask(question) => ask(
-            question, &numbers, line, rest, layout, sizes, lists, times, out, place,
+        Line::Table(table) => change_tables(
+            table,
+            &numbers,
+            layout,
+            sizes,
+            lists,
+            times,
+            out,
+            place,
         ),
-        Line::Comment => place,
+        Line::Ask(question) => ask(
+            question,
+            &numbers,
+            line,
+            rest,
+            layout,
+            sizes,
+            lists,
+            times,
+            out,
+            place,
+        ),
+        Line::PassedOver => place,
         Line::Bad => answers::put_bad(out, place),
     }
 }
 
-fn change(
+fn change_tables(
     line: TableLine,
     numbers: &Numbers,
     layout: &mut Numbers,

@@ -12,16 +12,19 @@ use script_words::numbers::byte_of;
 // The most entries of a list.
 pub const MOST_ENTRIES: usize = 10001;
 
-// Those of the four lists of unsigned numbers.
-pub const MOST_NUMBERS: usize = 4 * MOST_ENTRIES;
+// The lists, four of unsigned numbers and one of times.
+pub const LIST_COUNT: usize = 5;
+
+// Room for the four.
+pub const LISTS_ROOM: usize = (LIST_COUNT - 1) * MOST_ENTRIES;
 
 // Starts, ends, counts and rates, one list behind the other.
-pub type Lists = [u64; MOST_NUMBERS];
+pub type Lists = [u64; LISTS_ROOM];
 
 pub type TimeList = [i64; MOST_ENTRIES];
 
 // How many entries each list holds.
-pub type Sizes = [usize; 5];
+pub type Sizes = [usize; LIST_COUNT];
 
 // The lists' places among the sizes, the first four also their places behind one another.
 pub const STARTS: usize = 0;

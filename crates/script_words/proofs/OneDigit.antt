@@ -7,11 +7,11 @@ use mir.Syntax.{w8, w64}
 use mir.Val.{Fits}
 use Rattle.script_words.specs.declared.numbers.Digit.{Digit}
 use Rattle.script_words.specs.declared.numbers.Digit.the-variants as Digit
-use Rattle.script_words.specs.Words.{worth}
+use Rattle.script_words.specs.Words.{largest, worth}
 use Rattle.script_words.proofs.WordCases.{worth-of}
 
 -- d stands behind the digits of a value that leave room for it
-module _ {one : Digit} (v value base limit d : ℕ) (b : 10 ≤ base) (l : 16 ≤ limit) (f : limit ≤ 18446744073709551615) (e : d ≡ v) (o : one ≡ Digit.Worth v) (w : worth one ≤ 15) where
+module _ {one : Digit} (v value base limit d : ℕ) (b : 10 ≤ base) (l : 16 ≤ limit) (f : limit ≤ largest) (e : d ≡ v) (o : one ≡ Digit.Worth v) (w : worth one ≤ 15) where
   small : d ≤ 15
   small = omega (arith, worth-of 15 o w)
 

@@ -14,7 +14,7 @@ use Rattle.script_words.specs.declared.Words.{Words}
 use Rattle.script_words.specs.declared.Words.the-variants as Words
 use Rattle.script_words.specs.declared.Named.{Named}
 use Rattle.script_words.specs.declared.Named.the-variants as Named
-use Rattle.script_words.specs.Words.{UpTo, EndsBy, RowBelow, LengthBy, greatest, worth}
+use Rattle.script_words.specs.Words.{UpTo, EndsBy, RowBelow, LengthBy, greatest, largest, worth}
 
 -- digits that end before a line's end
 pub digits-end : (value limit i e place : ℕ) (w : Word) → UpTo value i w → value ≤ limit → i ≤ e → e ≤ place → UpTo limit place w
@@ -31,7 +31,7 @@ value-of limit place e h = (rw e at h) .0
 pub ordinal-fits : {w : Word} {value next : ℕ} (place : ℕ) → w ≡ Word.Number value next → UpTo 9223372036854775807 place w → Fits w64 (9223372036854775808 + value)
 ordinal-fits place e h = record { fits = omega (arith, value-of 9223372036854775807 place e h) }
 
-pub ordinal-of : {w : Word} {value next : ℕ} (place : ℕ) → w ≡ Word.Number value next → UpTo 9223372036854775807 place w → 9223372036854775808 + value ≤ 18446744073709551615
+pub ordinal-of : {w : Word} {value next : ℕ} (place : ℕ) → w ≡ Word.Number value next → UpTo 9223372036854775807 place w → 9223372036854775808 + value ≤ largest
 ordinal-of place e h = omega (arith, value-of 9223372036854775807 place e h)
 
 pub next-of : {w : Word} {value next : ℕ} (limit place : ℕ) → w ≡ Word.Number value next → UpTo limit place w → next ≤ place

@@ -13,9 +13,21 @@ use Rattle.script_words.specs.declared.Words.the-variants as Words
 use Rattle.script_words.specs.declared.Named.{Named}
 use Rattle.script_words.specs.declared.Named.the-variants as Named
 
+-- how many lines have a name
+abbrev pub lineCount : ℕ
+lineCount = 18
+
+-- the numbers of the longest line
+abbrev pub mostNumbers : ℕ
+mostNumbers = 22
+
+-- "N, V, C, E, MSF and the given count are u64"
+abbrev pub largest : ℕ
+largest = 18446744073709551615
+
 -- "DELIM and FILL 0 to 255", a buffer of "up to 256" bytes: the greatest number of a form, by its letter
 unfoldable pub greatest : ℕ → ℕ
-greatest form = cond (eqb form 98) 255 (cond (eqb form 108) 256 18446744073709551615)
+greatest form = cond (eqb form 98) 255 (cond (eqb form 108) 256 largest)
 
 -- a number up to a limit, with its word's end up to a place
 abbrev pub UpTo : ℕ → ℕ → Word → Type 0

@@ -4,12 +4,12 @@ ghost use mathlib.Core.Bool.{true};
 ghost use Prim.Native.Nat.{_≤_, _<_};
 ghost use lib.ListN.{length, take};
 ghost use Rattle.script_words.specs.Lines.{passedOver};
-ghost use Rattle.script_words.specs.Words.{UpTo, EndsBy, RowBelow, greatest};
+ghost use Rattle.script_words.specs.Words.{UpTo, EndsBy, RowBelow, greatest, lineCount, mostNumbers};
 use numbers::Word;
 use rules::Layout;
 
-pub mod numbers;
 pub mod hex;
+pub mod numbers;
 
 // A line that changes the tables.
 pub enum TableLine {
@@ -40,7 +40,7 @@ pub enum Question {
 pub enum Line {
     Table(TableLine),
     Ask(Question),
-    Comment,
+    PassedOver,
     Bad,
 }
 
@@ -134,7 +134,7 @@ pub fn read(line: &[u8], numbers: &mut Numbers) -> ReadLine
     ensures { λ r. ⌜ r .rest ≤ length (now (line .entry)) ⌝ }
 {
     if passed_over(line) {
-        return alone(Line::Comment);
+        return alone(Line::PassedOver);
     }
     let at = bytes::scan::find(line, 0, line.len(), b' ');
     match row_named(&line[0..at]) {
@@ -160,7 +160,7 @@ fn passed_over(line: &[u8]) -> bool
 }
 
 fn row_named(word: &[u8]) -> Named
-    ensures { λ r. ⌜ RowBelow 18 r ⌝ }
+    ensures { λ r. ⌜ RowBelow lineCount r ⌝ }
 {
     let mut i = 0;
     while i < LINES {
@@ -190,7 +190,7 @@ fn is_name(word: &[u8], row: &Row) -> bool
 
 fn read_row(line: &[u8], at: usize, row: usize, numbers: &mut Numbers) -> ReadLine
     requires { ⌜ at ≤ length (now line) ⌝ }
-    requires { ⌜ row < 18 ⌝ }
+    requires { ⌜ row < lineCount ⌝ }
     ensures { λ r. ⌜ r .rest ≤ length (now (line .entry)) ⌝ }
 {
     let words = ROWS[row];
@@ -204,7 +204,7 @@ fn read_row(line: &[u8], at: usize, row: usize, numbers: &mut Numbers) -> ReadLi
 }
 
 fn forms(row: &Row) -> &[u8]
-    ensures { λ r. ⌜ length (now r) ≡ 22 ⌝ }
+    ensures { λ r. ⌜ length (now r) ≡ mostNumbers ⌝ }
 {
     let words = &row[..];
     &words[NAME_ROOM..]

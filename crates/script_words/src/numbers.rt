@@ -2,7 +2,7 @@
 ghost use mathlib.Core.Path.{_≡_};
 ghost use Prim.Native.Nat.{_≤_, _<_, _%_, min};
 ghost use lib.ListN.{length};
-ghost use Rattle.script_words.specs.Words.{UpTo, worth};
+ghost use Rattle.script_words.specs.Words.{UpTo, largest, worth};
 
 // A number and the place after it.
 pub enum Word {
@@ -28,7 +28,7 @@ const BITS_DIGITS: usize = 16;
 // A number from 0 to `limit`, leading zeros allowed.
 pub fn decimal(line: &[u8], from: usize, limit: u64) -> Word
     requires { ⌜ from ≤ length (now line) ⌝ }
-    requires { ⌜ (16 ≤ limit) × (limit ≤ 18446744073709551615) ⌝ }
+    requires { ⌜ (16 ≤ limit) × (limit ≤ largest) ⌝ }
     ensures { λ r. ⌜ UpTo limit (length (now (line .entry))) r ⌝ }
 {
     digits(line, from, line.len(), 10, limit, 1)
@@ -37,7 +37,7 @@ pub fn decimal(line: &[u8], from: usize, limit: u64) -> Word
 // The ordinal of a time, `-` in front of one below 0.
 pub fn time(line: &[u8], from: usize) -> Word
     requires { ⌜ from ≤ length (now line) ⌝ }
-    ensures { λ r. ⌜ UpTo 18446744073709551615 (length (now (line .entry))) r ⌝ }
+    ensures { λ r. ⌜ UpTo largest (length (now (line .entry))) r ⌝ }
 {
     if from < line.len() {
         if line[from] == b'-' {
@@ -49,7 +49,7 @@ pub fn time(line: &[u8], from: usize) -> Word
 
 fn below_zero(line: &[u8], from: usize) -> Word
     requires { ⌜ from ≤ length (now line) ⌝ }
-    ensures { λ r. ⌜ UpTo 18446744073709551615 (length (now (line .entry))) r ⌝ }
+    ensures { λ r. ⌜ UpTo largest (length (now (line .entry))) r ⌝ }
 {
     match decimal(line, from, ZERO_TIME) {
         Word::Number(value, next) => Word::Number(ZERO_TIME - value, next),
@@ -59,7 +59,7 @@ fn below_zero(line: &[u8], from: usize) -> Word
 
 fn from_zero(line: &[u8], from: usize) -> Word
     requires { ⌜ from ≤ length (now line) ⌝ }
-    ensures { λ r. ⌜ UpTo 18446744073709551615 (length (now (line .entry))) r ⌝ }
+    ensures { λ r. ⌜ UpTo largest (length (now (line .entry))) r ⌝ }
 {
     match decimal(line, from, ZERO_TIME - 1) {
         Word::Number(value, next) => Word::Number(ZERO_TIME + value, next),
@@ -70,7 +70,7 @@ fn from_zero(line: &[u8], from: usize) -> Word
 // The 16 hexadecimal digits of a double's bits.
 pub fn bits(line: &[u8], from: usize) -> Word
     requires { ⌜ from ≤ length (now line) ⌝ }
-    ensures { λ r. ⌜ UpTo 18446744073709551615 (length (now (line .entry))) r ⌝ }
+    ensures { λ r. ⌜ UpTo largest (length (now (line .entry))) r ⌝ }
 {
     if line.len() - from < BITS_DIGITS {
         return Word::Bad;
@@ -82,7 +82,7 @@ pub fn bits(line: &[u8], from: usize) -> Word
 fn digits(line: &[u8], from: usize, end: usize, base: u64, limit: u64, least: usize) -> Word
     requires { ⌜ (from ≤ end) × (end ≤ length (now line)) ⌝ }
     requires { ⌜ (10 ≤ base) × (base ≤ 16) ⌝ }
-    requires { ⌜ (16 ≤ limit) × (limit ≤ 18446744073709551615) ⌝ }
+    requires { ⌜ (16 ≤ limit) × (limit ≤ largest) ⌝ }
     ensures { λ r. ⌜ UpTo limit (length (now (line .entry))) r ⌝ }
 {
     let mut value: u64 = 0;
@@ -153,7 +153,7 @@ pub fn byte_of(number: u64) -> u8
 }
 
 // A number of the form l.
-pub fn length_of(number: u64) -> usize
+pub fn lent_length(number: u64) -> usize
     ensures { λ r. ⌜ r ≡ min number 256 ⌝ }
 {
     if number < 256 {
