@@ -11,11 +11,11 @@ use libc::STDIN_FILENO;
 use lines::LineStep;
 use script_line::LONGEST_LINE;
 use script_line::answer_line;
+use script_names::Numbers;
 use script_tables::Lists;
 use script_tables::MOST_ENTRIES;
 use script_tables::Sizes;
 use script_tables::TimeList;
-use script_words::Numbers;
 
 // An answer has at most 256 bytes in hexadecimal, a word and a number.
 const LONGEST_ANSWER: usize = 600;
@@ -27,7 +27,7 @@ pub struct Places {
 }
 
 pub fn run() {
-    let mut layout = [0u64; script_words::MOST_NUMBERS];
+    let mut layout = [0u64; script_names::MOST_NUMBERS];
     let mut sizes = [0usize; script_tables::LIST_COUNT];
     let mut lists = [0u64; script_tables::LISTS_ROOM];
     let mut times = [0i64; MOST_ENTRIES];

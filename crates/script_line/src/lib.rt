@@ -3,6 +3,10 @@ ghost use Prim.Native.Nat.{_≤_};
 ghost use lib.ListN.{length};
 ghost use Rattle.answers.specs.Places.{Put};
 ghost use Rattle.script_tables.specs.Sizes.{Fit};
+use script_names::Line;
+use script_names::Numbers;
+use script_names::Question;
+use script_names::TableLine;
 use script_tables::COUNTS;
 use script_tables::ENDS;
 use script_tables::Lists;
@@ -11,10 +15,6 @@ use script_tables::STARTS;
 use script_tables::Sizes;
 use script_tables::Taken;
 use script_tables::TimeList;
-use script_words::Line;
-use script_words::Numbers;
-use script_words::Question;
-use script_words::TableLine;
 
 pub const LONGEST_LINE: usize = 8192;
 
@@ -35,8 +35,8 @@ pub fn answer_line(
     if LONGEST_LINE < line.len() {
         return answers::put_bad(out, place);
     }
-    let mut numbers = [0u64; script_words::MOST_NUMBERS];
-    let read = script_words::read(line, &mut numbers);
+    let mut numbers = [0u64; script_names::MOST_NUMBERS];
+    let read = script_names::read(line, &mut numbers);
     let rest = read.rest;
     let what = read.line;
     match what {

@@ -5,8 +5,8 @@ ghost use lib.ListN.{length, getD, take, drop};
 ghost use Rattle.script_tables.specs.Changes.{Keeps};
 ghost use Rattle.script_tables.specs.Sizes.{Fit, mostEntries};
 use rules::Layout;
-use script_words::Numbers;
-use script_words::TableLine;
+use script_names::Numbers;
+use script_names::TableLine;
 use script_words::numbers::byte_of;
 
 // The most entries of a list.

@@ -1,5 +1,5 @@
 -- What is known of a word that was read, taken from its case.
-use Prim.Native.Nat.{ℕ, _+_, _≤_, _<_}
+use Prim.Native.Nat.{ℕ, _+_, _≤_}
 use mathlib.Core.Path.{_≡_}
 use native.Mathlib.Omega.{arith}
 use mir.Syntax.{w64}
@@ -10,19 +10,12 @@ use Rattle.script_words.specs.declared.numbers.Digit.{Digit}
 use Rattle.script_words.specs.declared.numbers.Digit.the-variants as Digit
 use Rattle.script_words.specs.declared.hex.ByteWord.{ByteWord}
 use Rattle.script_words.specs.declared.hex.ByteWord.the-variants as ByteWord
-use Rattle.script_words.specs.declared.Words.{Words}
-use Rattle.script_words.specs.declared.Words.the-variants as Words
-use Rattle.script_words.specs.declared.Named.{Named}
-use Rattle.script_words.specs.declared.Named.the-variants as Named
-use Rattle.script_words.specs.Words.{UpTo, EndsBy, RowBelow, LengthBy, greatest, largest, worth}
+use Rattle.script_words.specs.Words.{UpTo, LengthBy, largest, worth}
 
 -- digits that end before a line's end
 pub digits-end : (value limit i e place : ℕ) (w : Word) → UpTo value i w → value ≤ limit → i ≤ e → e ≤ place → UpTo limit place w
 digits-end value limit i e place (Word.Number v n) h l m p = (omega arith, omega arith)
 digits-end value limit i e place Word.Bad h l m p = tt
-
-pub of-form : (letter limit : ℕ) {form : ℕ} (place : ℕ) (w : Word) → form ≡ letter → greatest letter ≡ limit → UpTo limit place w → UpTo (greatest form) place w
-of-form letter limit place w e q h = rw (e, q) h
 
 pub value-of : {w : Word} {value next : ℕ} (limit place : ℕ) → w ≡ Word.Number value next → UpTo limit place w → value ≤ limit
 value-of limit place e h = (rw e at h) .0
@@ -39,12 +32,6 @@ next-of limit place e h = (rw e at h) .1
 
 pub worth-of : {d : Digit} {value : ℕ} (limit : ℕ) → d ≡ Digit.Worth value → worth d ≤ limit → value ≤ limit
 worth-of limit e h = rw e at h
-
-pub end-of : {w : Words} {e : ℕ} (place : ℕ) → w ≡ Words.End e → EndsBy place w → e ≤ place
-end-of place q h = rw q at h
-
-pub row-of : {r : Named} {row : ℕ} (n : ℕ) → r ≡ Named.Row row → RowBelow n r → row < n
-row-of n q h = rw q at h
 
 pub length-of : {w : ByteWord} {n : ℕ} (room : ℕ) → w ≡ ByteWord.Length n → LengthBy room w → n ≤ room
 length-of room q h = rw q at h

@@ -1,8 +1,8 @@
 use Prim.Native.Nat.{_-_, _≤_}
 use borrow.Author.Needs.{needs}
-use Rattle.script_words.specs.Words.{lineCount}
-use Rattle.script_words.proofs.row_named.Statement.{statement}
-use Rattle.script_words.proofs.row_named.Tie as tie
+use Rattle.script_names.specs.Rows.{lineCount}
+use Rattle.script_names.proofs.row_named.Statement.{statement}
+use Rattle.script_names.proofs.row_named.Tie as tie
 
 abbrev Inv-loop : tie.InvT-loop
 Inv-loop word i₀ i = i ≤ lineCount

@@ -1,8 +1,9 @@
-use Rattle.script_words.proofs.WordCases.{of-form}
-use Rattle.script_words.specs.Words.{greatest, largest}
+use Rattle.script_names.proofs.RowCases.{of-form}
+use Rattle.script_words.specs.Words.{largest}
+use Rattle.script_names.specs.Rows.{greatest}
 use borrow.Author.Needs.{needs}
-use Rattle.script_words.proofs.word_at.Statement.{statement}
-use Rattle.script_words.proofs.word_at.Tie as tie
+use Rattle.script_names.proofs.word_at.Statement.{statement}
+use Rattle.script_names.proofs.word_at.Tie as tie
 
 returns-3 : tie.Need-returns-3
 unfolding greatest

@@ -1,7 +1,7 @@
-use Rattle.script_words.proofs.WordCases.{end-of}
+use Rattle.script_names.proofs.RowCases.{end-of}
 use borrow.Author.Needs.{needs}
-use Rattle.script_words.proofs.read_row.Statement.{statement}
-use Rattle.script_words.proofs.read_row.Tie as tie
+use Rattle.script_names.proofs.read_row.Statement.{statement}
+use Rattle.script_names.proofs.read_row.Tie as tie
 
 pub read-row-spec : {M : Type 1} → statement M
 read-row-spec =

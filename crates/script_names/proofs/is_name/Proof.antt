@@ -1,7 +1,7 @@
-use Rattle.script_words.proofs.Lines.{no-word, name-here}
+use Rattle.script_names.proofs.Lines.{no-word, name-here}
 use borrow.Author.Needs.{needs}
-use Rattle.script_words.proofs.is_name.Statement.{statement}
-use Rattle.script_words.proofs.is_name.Tie as tie
+use Rattle.script_names.proofs.is_name.Statement.{statement}
+use Rattle.script_names.proofs.is_name.Tie as tie
 
 returns : tie.Need-returns
 returns c = no-word _ _

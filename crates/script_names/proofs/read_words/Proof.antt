@@ -2,9 +2,9 @@ use Prim.Native.Nat.{_-_, _≤_}
 use mathlib.Core.Path.{_≡_}
 use lib.ListN.{length}
 use borrow.Author.Needs.{needs}
 use Rattle.script_words.proofs.WordCases.{next-of}
-use Rattle.script_words.proofs.read_words.Statement.{statement}
-use Rattle.script_words.proofs.read_words.Tie as tie
+use Rattle.script_names.proofs.read_words.Statement.{statement}
+use Rattle.script_names.proofs.read_words.Tie as tie
 
 abbrev Inv-loop : tie.InvT-loop
 Inv-loop line at forms numbers₀ place₀ i₀ numbers place i = (place ≤ length line) × (length numbers ≡ length numbers₀)

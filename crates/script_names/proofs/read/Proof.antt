@@ -1,7 +1,7 @@
-use Rattle.script_words.proofs.WordCases.{row-of}
+use Rattle.script_names.proofs.RowCases.{row-of}
 use borrow.Author.Needs.{needs}
-use Rattle.script_words.proofs.read.Statement.{statement}
-use Rattle.script_words.proofs.read.Tie as tie
+use Rattle.script_names.proofs.read.Statement.{statement}
+use Rattle.script_names.proofs.read.Tie as tie
 
 read-row-requires : tie.Need-read-row-requires
 read-row-requires c κs = (search needs, search (row-of, needs))

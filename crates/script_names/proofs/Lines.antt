@@ -7,7 +7,7 @@ use native.Mathlib.Nat.{sub-zero}
 use native.Mathlib.Omega.{arith}
 use lib.Dec.{eqb}
 use lib.ListN.{length, getD, take, drop}
-use Rattle.script_words.specs.Lines.{passedOver}
+use Rattle.script_names.specs.Lines.{passedOver}
 
 pub empty-line : (s : List ℕ) → length s ≡ 0 → true ≡ passedOver s
 unfolding passedOver
