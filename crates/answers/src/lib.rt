@@ -1,6 +1,7 @@
-// The answers, each a line. They are put behind one another into a buffer: each function puts its bytes at `at` as far as there
-// is room, and answers the place after them.
+// The answers, each a line. They are put behind one another into a buffer: each function `put_..` puts its bytes at `at` as far as
+// there is room, and answers the place after them.
 ghost use Rattle.answers.specs.Places.{Put};
+use libc::STDOUT_FILENO;
 use rules::CountAnswer;
 use rules::DoubleAnswer;
 use rules::PrintAnswer;
@@ -16,6 +17,24 @@ const NO_BYTES: u8 = b'.';
 const ZERO: u64 = 0x8000_0000_0000_0000;
 // One pattern stands for every NaN.
 const NAN: u64 = 0x7ff8_0000_0000_0000;
+
+// The place for one more answer, after what was put so far is written out where there is no room for the longest.
+pub fn with_room(out: &[u8], at: usize, longest: usize) -> usize {
+    if at < out.len() {
+        if longest <= out.len() - at {
+            return at;
+        }
+    }
+    write_out(out, at);
+    0
+}
+
+// Writes what was put before `at` to standard output.
+pub fn write_out(out: &[u8], at: usize) {
+    if at <= out.len() {
+        io::write_all(STDOUT_FILENO, &out[0..at]);
+    }
+}
 
 pub fn put_bad(out: &mut [u8], at: usize) -> usize
     ensures { λ r. ⌜ Put at (now (out .entry)) r ⌝ }

@@ -10,7 +10,7 @@ use borrow.Author.Tests.{lt-ltb, le-ltb, leb-true, leb-false}
 use native.Mathlib.Nat.{add-assoc, add-zero}
 use native.Mathlib.Omega.{arith}
 use Rattle.base.proofs.Tests.{by-test}
-use Rattle.lines.specs.Lines.{lineEnd, lineBuffer, keptOf}
+use Rattle.lines.specs.Lines.{lineEnd, keptOf}
 use Rattle.lines.specs.Steps.{lineIn, endsIn, takenIn, keptWith, nextLine, lineAfter}
 
 line-front : (bs : List ℕ) → take (length (lineIn bs)) bs ≡ lineIn bs
@@ -40,24 +40,24 @@ take-min n l =
     long h = let e : min (length l) n ≡ n = omega arith in rw e
 
 -- the bytes l put behind the first `kept` bytes of the line buffer, as far as there is room
-module _ (line : List ℕ) (kept : ℕ) (l : List ℕ) (buffer : length line ≡ lineBuffer) (room : kept ≤ lineBuffer) where
+module _ (line : List ℕ) (kept : ℕ) (l : List ℕ) (room : kept ≤ length line) where
   front : length (take kept line) ≡ kept
   front = length-take-le kept line (omega arith)
 
-  kept-is : keptOf (take kept line ++ l) ≡ take kept line ++ take (min (length l) (length line - kept)) l
+  kept-is : keptOf (length line) (take kept line ++ l) ≡ take kept line ++ take (min (length l) (length line - kept)) l
   unfolding keptOf
   kept-is =
       subst (λ n. take n (take kept line ++ l) ≡ take kept line ++ take (length line - kept) l) all (take-append-add (take kept line) l (length line - kept))
       ∙ rw (take-min (length line - kept) l)
     where
-      all : length (take kept line) + (length line - kept) ≡ lineBuffer
-      all = rw (front, buffer) (omega arith)
+      all : length (take kept line) + (length line - kept) ≡ length line
+      all = rw front (omega arith)
 
-  kept-length : kept + min (length l) (length line - kept) ≡ length (keptOf (take kept line ++ l))
+  kept-length : kept + min (length l) (length line - kept) ≡ length (keptOf (length line) (take kept line ++ l))
   kept-length = rw (kept-is, length-append, front, length-take) (omega arith)
 
   kept-pasted :
-      paste line kept l (min (length l) (length line - kept)) ≡ keptOf (take kept line ++ l) ++ drop (length (keptOf (take kept line ++ l))) line
+      paste line kept l (min (length l) (length line - kept)) ≡ keptOf (length line) (take kept line ++ l) ++ drop (length (keptOf (length line) (take kept line ++ l))) line
   kept-pasted = rw (← kept-length, kept-is)
 
 module _ (chunk : List ℕ) (at e : ℕ) (end-is : e ≡ at + length (lineIn (drop at chunk))) where
@@ -73,14 +73,14 @@ module _ (chunk : List ℕ) (at e : ℕ) (end-is : e ≡ at + length (lineIn (dr
   goes-on : length chunk ≤ e → endsIn (drop at chunk) ≡ false
   goes-on h = ends-short (drop at chunk) ∙ le-ltb (length (lineIn (drop at chunk))) (length (drop at chunk)) (omega (arith, length-drop at chunk))
 
-  module _ (line : List ℕ) (kept m : ℕ) (buffer : length line ≡ lineBuffer) (room : kept ≤ lineBuffer) (more-is : m ≡ kept + min (length (take (e - at) (drop at chunk))) (length line - kept)) where
-    m-is : m ≡ length (keptWith (take kept line) (drop at chunk))
+  module _ (line : List ℕ) (kept m : ℕ) (room : kept ≤ length line) (more-is : m ≡ kept + min (length (take (e - at) (drop at chunk))) (length line - kept)) where
+    m-is : m ≡ length (keptWith (length line) (take kept line) (drop at chunk))
     unfolding keptWith
-    m-is = more-is ∙ rw part-is (kept-length line kept (lineIn (drop at chunk)) buffer room)
+    m-is = more-is ∙ rw part-is (kept-length line kept (lineIn (drop at chunk)) room)
 
     pub line-is : {out : List ℕ} → out ≡ paste line kept (take (e - at) (drop at chunk)) (m - kept) → out ≡ lineAfter chunk at line kept
     unfolding lineAfter keptWith
-    line-is {out} o = o ∙ rw (copied, part-is) (kept-pasted line kept (lineIn (drop at chunk)) buffer room)
+    line-is {out} o = o ∙ rw (copied, part-is) (kept-pasted line kept (lineIn (drop at chunk)) room)
       where
         copied : m - kept ≡ min (length (take (e - at) (drop at chunk))) (length line - kept)
         copied = omega arith

@@ -1,4 +1,4 @@
--- The three ends of an input, and a line that two chunks share.
+-- The three ends of an input, and a line that two chunks share, over a line buffer of two bytes.
 use Prim.Native.Nat.{ℕ}
 use mathlib.Core.Path.{_≡_, refl}
 use mathlib.Core.List.{List, [], _∷_, map}
@@ -28,6 +28,6 @@ pub cases-hold : map (λ c. linesOf (c .input)) cases ≡ map (λ c. c .expected
 unfolding linesOf withByte case cases
 cases-hold = refl
 
-pub cut-line : allLines (fedChunks (carried [] []) ((49 ∷ 10 ∷ 50 ∷ []) ∷ [] ∷ (51 ∷ []) ∷ [])) ≡ linesOf (49 ∷ 10 ∷ 50 ∷ 51 ∷ [])
+pub cut-line : allLines (fedChunks 2 (carried [] []) ((49 ∷ 10 ∷ 50 ∷ []) ∷ [] ∷ (51 ∷ []) ∷ [])) ≡ linesOf (49 ∷ 10 ∷ 50 ∷ 51 ∷ [])
 unfolding linesOf withByte keptOf carried withNext fed fedChunks lastLine allLines
 cut-line = refl

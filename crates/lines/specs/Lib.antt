@@ -1,4 +1,4 @@
--- What a line of the stamp program's input is, and how the lines are found as the input comes in.
+-- What a line of a program's input is, and how the lines are found as the input comes in.
 pub mod Lines
 pub mod Steps
 pub mod Examples

@@ -1,5 +1,5 @@
 -- "lines (up to byte 10 or the end of input)": the lines of a whole input, each without its byte 10.
-use Prim.Native.Nat.{ℕ}
+use Prim.Native.Nat.{ℕ, _+_}
 use mathlib.Core.Bool.{cond}
 use mathlib.Core.List.{List, [], _∷_}
 use lib.Dec.{eqb}
@@ -20,14 +20,10 @@ unfoldable pub linesOf : List ℕ → List (List ℕ)
 linesOf [] = []
 linesOf (b ∷ bs) = withByte b (linesOf bs)
 
--- "A line over 96 bytes"
-abbrev pub longestLine : ℕ
-longestLine = 96
+-- what a line buffer with this room keeps of a line
+unfoldable pub keptOf : ℕ → List ℕ → List ℕ
+keptOf room l = take room l
 
--- "a line buffer of 97 bytes"
-abbrev pub lineBuffer : ℕ
-lineBuffer = 97
-
--- what the line buffer keeps of a line
-unfoldable pub keptOf : List ℕ → List ℕ
-keptOf l = take lineBuffer l
+-- room for the longest line and for one byte more, which tells a line that is too long
+abbrev pub roomFor : ℕ → ℕ
+roomFor longest = longest + 1

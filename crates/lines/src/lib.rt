@@ -1,11 +1,10 @@
-// The lines of an input that comes in chunks. A line buffer keeps what a program needs of the line under way:
-// its first 97 bytes, one more than the longest line may have.
+// The lines of an input that comes in chunks. A line buffer that the program lends keeps the first bytes of the line under way:
+// with room for one byte more than the longest line has, what is kept tells whether a line is too long.
 ghost use mathlib.Core.Path.{_≡_};
 ghost use Prim.Native.Nat.{_+_, _-_, _≤_, min};
 ghost use lib.ListN.{length, drop};
 ghost use lib.Seq.{paste};
-ghost use Rattle.lines.specs.Lines.{lineBuffer};
-ghost use Rattle.lines.specs.Steps.{lineIn, nextLine, lineAfter, Forward};
+ghost use Rattle.lines.specs.Steps.{lineIn, nextLine, lineAfter, Onward};
 
 const LINE_END: u8 = 10;
 
@@ -20,11 +19,10 @@ pub struct LineStep {
 // the first `kept` bytes of the line buffer are kept. After a line has ended the next step starts with 0 kept.
 pub fn next(chunk: &[u8], at: usize, line: &mut [u8], kept: usize) -> LineStep
     requires { ⌜ at ≤ length (now chunk) ⌝ }
-    requires { ⌜ length (now line) ≡ lineBuffer ⌝ }
-    requires { ⌜ kept ≤ lineBuffer ⌝ }
+    requires { ⌜ kept ≤ length (now line) ⌝ }
     ensures { λ r. ⌜ r ≡ nextLine (now (chunk .entry)) at (now (line .entry)) kept ⌝ }
     ensures { λ r. ⌜ now (line .exit) ≡ lineAfter (now (chunk .entry)) at (now (line .entry)) kept ⌝ }
-    ensures { λ r. ⌜ Forward (now (chunk .entry)) at r ⌝ }
+    ensures { λ r. ⌜ Onward (now (chunk .entry)) at (length (now (line .entry))) r ⌝ }
 {
     let end = line_end(chunk, at);
     let more = keep(line, kept, &chunk[at..end]);

@@ -1,10 +1,16 @@
-// The questions of a script, each over one public call.
+// The questions of a script, each over one public call. Each function puts its answer at `place`, and answers the place after it.
 ghost use Prim.Native.Nat.{_≤_};
+ghost use lib.ListN.{length};
 ghost use Rattle.answers.specs.Places.{Put};
 use doubles::DoubleSegment;
-use rules::CountAnswer;
 use rules::Layout;
-use script_words::Numbers;
+use script_names::Numbers;
+use script_names::Question;
+use script_words::hex::ByteWord;
+use script_words::hex::read_bytes;
+use script_words::numbers::byte_of;
+use script_words::numbers::double_of;
+use script_words::numbers::lent_length;
 
 // The most bytes of a text or a message to read.
 const MOST_BYTES: usize = 2000;
@@ -12,12 +18,12 @@ const MOST_BYTES: usize = 2000;
 // The most bytes of a buffer to print into.
 const MOST_LENT: usize = 256;
 
-// Puts the answer to the line's question at `place`, and answers the place after it. The name is none of the tables'; a line
-// without a name is bad.
+// The line was read: its numbers, which end at `rest`.
 pub fn answer(
-    name: usize,
+    question: Question,
     numbers: &Numbers,
     line: &[u8],
+    rest: usize,
     layout: Layout,
     starts: &[u64],
     ends: &[u64],
@@ -27,82 +33,111 @@ pub fn answer(
     out: &mut [u8],
     place: usize,
 ) -> usize
-    requires { ⌜ 8 ≤ name ⌝ }
+    requires { ⌜ rest ≤ length (now line) ⌝ }
     ensures { λ r. ⌜ Put place (now (out .entry)) r ⌝ }
 {
-    if name < script_words::PRINT_COUNT {
-        return over_segments(
-            name,
-            numbers[0],
-            layout,
-            starts,
-            ends,
-            counts,
-            times,
-            rates,
-            out,
-            place,
-        );
+    match question {
+        Question::ReadText => read_text(line, rest, layout, out, place),
+        Question::ReadStamp => read_stamp(line, rest, layout, starts, ends, out, place),
+        Question::ReadMessage => read_message(line, rest, layout, starts, ends, out, place),
+        Question::PrintCount => print_count(numbers, layout, out, place),
+        Question::PrintStamp => print_stamp(numbers, layout, starts, ends, out, place),
+        Question::TimeOf => {
+            let answer = time::time_of(layout, starts, ends, counts, times, rates, numbers[0]);
+            answers::put_time(out, place, answer)
+        }
+        Question::CountAt => {
+            let at = signed::from_ordinal(numbers[0]);
+            let answer = time::count_at(layout, starts, ends, counts, times, rates, at);
+            answers::put_count(out, place, answer)
+        }
+        Question::StepsBack => {
+            let answer = tables::steps_back(layout, starts, ends, counts, times, rates);
+            answers::put_steps_back(out, place, answer)
+        }
+        Question::Forward => forward(numbers, out, place),
+        Question::Back => back(numbers, out, place),
     }
-    if name < script_words::FORWARD {
-        return print_number(name, numbers, layout, starts, ends, out, place);
-    }
-    if name < script_words::READ_TEXT {
-        return in_doubles(name, numbers, out, place);
-    }
-    if name < script_words::NO_NAME {
-        return read(name, line, layout, starts, ends, out, place);
-    }
-    answers::put_bad(out, place)
 }
 
-// The questions over all tables.
-fn over_segments(
-    name: usize,
-    number: u64,
+fn read_text(line: &[u8], rest: usize, layout: Layout, out: &mut [u8], place: usize) -> usize
+    requires { ⌜ rest ≤ length (now line) ⌝ }
+    ensures { λ r. ⌜ Put place (now (out .entry)) r ⌝ }
+{
+    let mut bytes = [0u8; MOST_BYTES];
+    match read_bytes(line, rest, &mut bytes) {
+        ByteWord::Length(n) => {
+            let answer = text::read_text(layout, first_bytes(&bytes, n));
+            answers::put_count(out, place, answer)
+        }
+        ByteWord::Bad => answers::put_bad(out, place),
+    }
+}
+
+fn read_stamp(
+    line: &[u8],
+    rest: usize,
     layout: Layout,
     starts: &[u64],
     ends: &[u64],
-    counts: &[u64],
-    times: &[i64],
-    rates: &[u64],
     out: &mut [u8],
     place: usize,
 ) -> usize
+    requires { ⌜ rest ≤ length (now line) ⌝ }
     ensures { λ r. ⌜ Put place (now (out .entry)) r ⌝ }
 {
-    if name == script_words::STEPS_BACK {
-        return answers::put_steps_back(
-            out,
-            place,
-            tables::steps_back(layout, starts, ends, counts, times, rates),
-        );
+    let mut bytes = [0u8; MOST_BYTES];
+    match read_bytes(line, rest, &mut bytes) {
+        ByteWord::Length(n) => {
+            let answer = text::read_stamp(layout, starts, ends, first_bytes(&bytes, n));
+            answers::put_count(out, place, answer)
+        }
+        ByteWord::Bad => answers::put_bad(out, place),
     }
-    if name == script_words::TIME_OF {
-        return answers::put_time(
-            out,
-            place,
-            time::time_of(layout, starts, ends, counts, times, rates, number),
-        );
-    }
-    answers::put_count(
-        out,
-        place,
-        time::count_at(
-            layout,
-            starts,
-            ends,
-            counts,
-            times,
-            rates,
-            signed::from_ordinal(number),
-        ),
-    )
 }
 
-// A count or a stamp, into a buffer that is filled with one byte.
-fn print_number(
-    name: usize,
+fn read_message(
+    line: &[u8],
+    rest: usize,
+    layout: Layout,
+    starts: &[u64],
+    ends: &[u64],
+    out: &mut [u8],
+    place: usize,
+) -> usize
+    requires { ⌜ rest ≤ length (now line) ⌝ }
+    ensures { λ r. ⌜ Put place (now (out .entry)) r ⌝ }
+{
+    let mut bytes = [0u8; MOST_BYTES];
+    match read_bytes(line, rest, &mut bytes) {
+        ByteWord::Length(n) => {
+            let answer = message::read_message(layout, starts, ends, first_bytes(&bytes, n));
+            answers::put_count(out, place, answer)
+        }
+        ByteWord::Bad => answers::put_bad(out, place),
+    }
+}
+
+fn first_bytes(bytes: &[u8; MOST_BYTES], n: usize) -> &[u8]
+    requires { ⌜ n ≤ 2000 ⌝ }
+{
+    let all = &bytes[..];
+    &all[0..n]
+}
+
+// A count, into a buffer that is filled with one byte.
+fn print_count(numbers: &Numbers, layout: Layout, out: &mut [u8], place: usize) -> usize
+    ensures { λ r. ⌜ Put place (now (out .entry)) r ⌝ }
+{
+    let size = lent_length(numbers[2]);
+    let mut buffer = [byte_of(numbers[1]); MOST_LENT];
+    let lent = &mut buffer[0..size];
+    let answer = print::print_count(layout, numbers[0], lent);
+    answers::put_print(out, place, answer, lent)
+}
+
+// A stamp likewise.
+fn print_stamp(
     numbers: &Numbers,
     layout: Layout,
     starts: &[u64],
@@ -112,73 +147,32 @@ fn print_number(
 ) -> usize
     ensures { λ r. ⌜ Put place (now (out .entry)) r ⌝ }
 {
-    if 255 < numbers[1] {
-        return answers::put_bad(out, place);
-    }
-    if (MOST_LENT as u64) < numbers[2] {
-        return answers::put_bad(out, place);
-    }
-    let size = numbers[2] as usize;
-    let mut buffer = [numbers[1] as u8; MOST_LENT];
+    let size = lent_length(numbers[2]);
+    let mut buffer = [byte_of(numbers[1]); MOST_LENT];
     let lent = &mut buffer[0..size];
-    if name == script_words::PRINT_COUNT {
-        let answer = print::print_count(layout, numbers[0], lent);
-        return answers::put_print(out, place, answer, lent);
-    }
     let answer = print::print_stamp(layout, starts, ends, numbers[0], lent);
     answers::put_print(out, place, answer, lent)
 }
 
-// The double form, forward or back.
-fn in_doubles(name: usize, numbers: &Numbers, out: &mut [u8], place: usize) -> usize
+fn forward(numbers: &Numbers, out: &mut [u8], place: usize) -> usize
     ensures { λ r. ⌜ Put place (now (out .entry)) r ⌝ }
 {
-    let segment = DoubleSegment {
-        count: script_words::double_of(numbers[0]),
-        time: script_words::double_of(numbers[1]),
-        rate: script_words::double_of(numbers[2]),
-    };
-    if name == script_words::FORWARD {
-        return answers::put_double(
-            out,
-            place,
-            doubles::forward(segment, numbers[3], numbers[4]),
-        );
-    }
-    let given = script_words::double_of(numbers[4]);
-    answers::put_double(out, place, doubles::back(segment, numbers[3], given))
+    let answer = doubles::forward(segment_of(numbers), numbers[3], numbers[4]);
+    answers::put_double(out, place, answer)
 }
 
-// A text, a stamp or a message.
-fn read(
-    name: usize,
-    line: &[u8],
-    layout: Layout,
-    starts: &[u64],
-    ends: &[u64],
-    out: &mut [u8],
-    place: usize,
-) -> usize
+fn back(numbers: &Numbers, out: &mut [u8], place: usize) -> usize
     ensures { λ r. ⌜ Put place (now (out .entry)) r ⌝ }
 {
-    let mut bytes = [0u8; MOST_BYTES];
-    let length = script_words::hex_bytes(line, &mut bytes);
-    if MOST_BYTES < length {
-        return answers::put_bad(out, place);
-    }
-    answers::put_count(
-        out,
-        place,
-        read_as(name, layout, starts, ends, &bytes[0..length]),
-    )
+    let given = double_of(numbers[4]);
+    let answer = doubles::back(segment_of(numbers), numbers[3], given);
+    answers::put_double(out, place, answer)
 }
 
-fn read_as(name: usize, layout: Layout, starts: &[u64], ends: &[u64], bytes: &[u8]) -> CountAnswer {
-    if name == script_words::READ_TEXT {
-        return text::read_text(layout, bytes);
+fn segment_of(numbers: &Numbers) -> DoubleSegment {
+    DoubleSegment {
+        count: double_of(numbers[0]),
+        time: double_of(numbers[1]),
+        rate: double_of(numbers[2]),
     }
-    if name == script_words::READ_STAMP {
-        return text::read_stamp(layout, starts, ends, bytes);
-    }
-    message::read_message(layout, starts, ends, bytes)
 }

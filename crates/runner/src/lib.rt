@@ -1,141 +1,151 @@
 // Runs a script of cases: reads it from standard input, and answers each question on a line of standard output.
 // The programs that run one are this and nothing more.
+ghost use mathlib.Core.Path.{_≡_};
+ghost use mathlib.Core.Bool.{cond};
 ghost use Prim.Native.Nat.{_≤_};
-use libc::STDOUT_FILENO;
-use script_input::CHUNK;
-use script_input::Input;
-use script_input::LONGEST_LINE;
-use script_input::LineBuffer;
-use script_tables::COUNTS;
-use script_tables::ENDS;
+ghost use lib.ListN.{length, take};
+ghost use Rattle.lines.specs.Steps.{lineLeft};
+ghost use Rattle.script_tables.specs.Sizes.{Fit};
+ghost use Rattle.runner.specs.Room.{lineBuffer};
+use libc::STDIN_FILENO;
+use lines::LineStep;
+use script_line::LONGEST_LINE;
+use script_line::answer_line;
+use script_names::Numbers;
 use script_tables::Lists;
 use script_tables::MOST_ENTRIES;
-use script_tables::MOST_NUMBERS;
-use script_tables::RATES;
-use script_tables::STARTS;
 use script_tables::Sizes;
 use script_tables::TimeList;
-use script_words::Numbers;
-
-const OUTPUT: usize = 65536;
 
 // An answer has at most 256 bytes in hexadecimal, a word and a number.
 const LONGEST_ANSWER: usize = 600;
 
-type Output = [u8; OUTPUT];
+// Where the next line's kept bytes and the next answer go on.
+pub struct Places {
+    pub kept: usize,
+    pub out: usize,
+}
 
 pub fn run() {
-    let mut layout = [0u64; 22];
-    let mut sizes = [0usize; 5];
-    let mut lists = [0u64; MOST_NUMBERS];
+    let mut layout = [0u64; script_names::MOST_NUMBERS];
+    let mut sizes = [0usize; script_tables::LIST_COUNT];
+    let mut lists = [0u64; script_tables::LISTS_ROOM];
     let mut times = [0i64; MOST_ENTRIES];
-    let mut chunk = [0u8; CHUNK];
     let mut line = [0u8; LONGEST_LINE + 1];
-    let mut out = [0u8; OUTPUT];
-    let mut place = 0;
-    let mut input = script_input::start();
-    let mut turns = u64::MAX;
-    while turns > 0 && input.open {
-        place = written(input, &out, place);
-        input = script_input::next(input, &mut chunk, &mut line);
-        place = take_line(
-            input,
-            &line,
+    let kept = answer_input(&mut line, &mut layout, &mut sizes, &mut lists, &mut times);
+    if kept > 0 {
+        answer_last(
+            &line[0..kept],
             &mut layout,
             &mut sizes,
             &mut lists,
             &mut times,
-            &mut out,
-            place,
         );
-        turns -= 1;
-    }
-    written(input, &out, place);
-}
-
-// Writes the output before more input is read, and where it may have no room for an answer; answers the place after what is left.
-fn written(input: Input, out: &Output, place: usize) -> usize {
-    if place < OUTPUT - LONGEST_ANSWER {
-        if input.at < input.have {
-            return place;
-        }
-    }
-    write(out, place);
-    0
-}
-
-fn write(out: &[u8], count: usize) {
-    if count <= out.len() {
-        io::write_all(STDOUT_FILENO, &out[0..count]);
     }
 }
 
-// Where a line has ended, changes the tables as it says or puts its answer into the output, and answers the place after it.
-fn take_line(
-    input: Input,
-    buffer: &LineBuffer,
+// Reads to the end of input; where it cannot be read it has ended. Every line that has ended is answered before more input is
+// asked for. How many bytes of a last line without byte 10 are kept.
+fn answer_input(
+    line: &mut [u8],
     layout: &mut Numbers,
     sizes: &mut Sizes,
     lists: &mut Lists,
     times: &mut TimeList,
-    out: &mut Output,
-    place: usize,
-) -> usize {
-    if !input.ended {
-        return place;
-    }
-    if LONGEST_LINE < input.kept {
-        return answers::put_bad(out, place);
-    }
-    let line = script_input::kept_line(buffer, input.kept);
-    if script_words::passed_over(line) {
-        return place;
-    }
-    let mut numbers = [0u64; 22];
-    let name = script_words::read(line, &mut numbers);
-    if name < script_words::STEPS_BACK {
-        if script_tables::take(name, &numbers, layout, sizes, lists, times) {
-            return place;
+) -> usize
+    requires { ⌜ length (now line) ≡ lineBuffer ⌝ }
+    requires { ⌜ Fit (now sizes) ⌝ }
+    ensures { λ r. ⌜ r ≤ lineBuffer ⌝ }
+    ensures { λ r. ⌜ Fit (now (sizes .exit)) ⌝ }
+{
+    let mut chunk = io::large_buffer();
+    let mut kept = 0;
+    let mut turns = u64::MAX;
+    while turns > 0 {
+        let got = libc::read(STDIN_FILENO, &mut chunk);
+        let n = io::count(got, &chunk);
+        if n == 0 {
+            return kept;
         }
-        return answers::put_bad(out, place);
+        kept = answer_lines(&chunk[..n], line, kept, layout, sizes, lists, times);
+        turns -= 1;
     }
-    ask(
-        name,
-        &numbers,
-        line,
-        layout,
-        sizes,
-        lists,
-        times,
-        out,
-        place,
-    )
+    kept
 }
 
-fn ask(
-    name: usize,
-    numbers: &Numbers,
-    line: &[u8],
-    layout: &Numbers,
-    sizes: &Sizes,
-    lists: &[u64],
-    times: &[i64],
-    out: &mut [u8],
-    place: usize,
+// Takes each line that ends in the chunk. How many bytes of the line under way are kept.
+fn answer_lines(
+    chunk: &[u8],
+    line: &mut [u8],
+    kept: usize,
+    layout: &mut Numbers,
+    sizes: &mut Sizes,
+    lists: &mut Lists,
+    times: &mut TimeList,
 ) -> usize
-    requires { ⌜ 8 ≤ name ⌝ }
+    requires { ⌜ length (now line) ≡ lineBuffer ⌝ }
+    requires { ⌜ kept ≤ lineBuffer ⌝ }
+    requires { ⌜ Fit (now sizes) ⌝ }
+    ensures { λ r. ⌜ r ≤ lineBuffer ⌝ }
+    ensures { λ r. ⌜ Fit (now (sizes .exit)) ⌝ }
+    ensures { λ r. ⌜ take r (now (line .exit)) ≡ lineLeft lineBuffer (take kept (now (line .entry))) (now (chunk .entry)) ⌝ }
 {
-    questions::answer(
-        name,
-        numbers,
-        line,
-        script_tables::layout_of(layout),
-        script_tables::held(lists, STARTS, sizes),
-        script_tables::held(lists, ENDS, sizes),
-        script_tables::held(lists, COUNTS, sizes),
-        script_tables::held_times(times, sizes),
-        script_tables::held(lists, RATES, sizes),
-        out,
-        place,
-    )
+    let mut buffer = io::large_buffer();
+    let out: &mut [u8] = &mut buffer;
+    let mut at = 0;
+    let mut held = kept;
+    let mut place = 0;
+    while at < chunk.len() {
+        let step = lines::next(chunk, at, line, held);
+        at = step.at;
+        let places = settle(step, line, layout, sizes, lists, times, out, place);
+        held = places.kept;
+        place = places.out;
+    }
+    answers::write_out(out, place);
+    held
+}
+
+// Takes the line where it has ended.
+fn settle(
+    step: LineStep,
+    line: &[u8],
+    layout: &mut Numbers,
+    sizes: &mut Sizes,
+    lists: &mut Lists,
+    times: &mut TimeList,
+    out: &mut [u8],
+    at: usize,
+) -> Places
+    requires { ⌜ step .kept ≤ length (now line) ⌝ }
+    requires { ⌜ Fit (now sizes) ⌝ }
+    ensures { λ r. ⌜ r .kept ≡ cond (step .ended) 0 (step .kept) ⌝ }
+    ensures { λ r. ⌜ r .kept ≤ step .kept ⌝ }
+    ensures { λ r. ⌜ Fit (now (sizes .exit)) ⌝ }
+{
+    let n = step.kept;
+    if step.ended {
+        let from = answers::with_room(out, at, LONGEST_ANSWER);
+        let place = answer_line(&line[0..n], layout, sizes, lists, times, out, from);
+        return Places {
+            kept: 0,
+            out: place,
+        };
+    }
+    Places { kept: n, out: at }
+}
+
+fn answer_last(
+    line: &[u8],
+    layout: &mut Numbers,
+    sizes: &mut Sizes,
+    lists: &mut Lists,
+    times: &mut TimeList,
+)
+    requires { ⌜ Fit (now sizes) ⌝ }
+{
+    let mut buffer = [0u8; LONGEST_ANSWER];
+    let out: &mut [u8] = &mut buffer;
+    let place = answer_line(line, layout, sizes, lists, times, out, 0);
+    answers::write_out(out, place);
 }

@@ -1,2 +1,3 @@
 -- The laws that the proofs cite.
 mod Changes
+pub mod Sizes

@@ -1,9 +1,10 @@
 -- What a line changes.
-use mathlib.Core.Bool.{Bool, true, false}
 use mathlib.Core.Path.{_≡_}
 use mathlib.Core.List.{List}
+use Rattle.script_tables.specs.declared.Taken.{Taken}
+use Rattle.script_tables.specs.declared.Taken.the-variants.{Changed, NoRoom}
 
--- a line that is not taken changes nothing
-abbrev pub Keeps : {A : Type 0} → Bool → List A → List A → Type 0
-Keeps true before after = Unit {0}
-Keeps false before after = before ≡ after
+-- "a 10,002nd entry; nothing is changed by it"
+abbrev pub Keeps : {A : Type 0} → Taken → List A → List A → Type 0
+Keeps Changed before after = Unit {0}
+Keeps NoRoom before after = before ≡ after

@@ -1,28 +1,32 @@
-// The tables: the layout as the 22 numbers of its line, and five lists, each with how many entries it holds.
-ghost use Prim.Native.Nat.{_<_, _≤_};
+// The tables: the layout as the numbers of its line, and five lists, each with how many entries it holds.
+ghost use Prim.Native.Nat.{_*_, _+_, _<_, _≤_};
 ghost use mathlib.Core.Path.{_≡_};
-ghost use lib.ListN.{length, getD};
+ghost use lib.ListN.{length, getD, take, drop};
 ghost use Rattle.script_tables.specs.Changes.{Keeps};
+ghost use Rattle.script_tables.specs.Sizes.{Fit, mostEntries};
 use rules::Layout;
-use script_words::LAYOUT;
-use script_words::Numbers;
-use script_words::PARTITIONS;
-use script_words::TIME;
+use script_names::Numbers;
+use script_names::TableLine;
+use script_words::numbers::byte_of;
 
 // The most entries of a list.
 pub const MOST_ENTRIES: usize = 10001;
 
-// Those of the four lists of unsigned numbers.
-pub const MOST_NUMBERS: usize = 4 * MOST_ENTRIES;
+// The lists, four of unsigned numbers and one of times.
+pub const LIST_COUNT: usize = 5;
+
+// Room for the four.
+pub const LISTS_ROOM: usize = (LIST_COUNT - 1) * MOST_ENTRIES;
 
 // Starts, ends, counts and rates, one list behind the other.
-pub type Lists = [u64; MOST_NUMBERS];
+pub type Lists = [u64; LISTS_ROOM];
 
 pub type TimeList = [i64; MOST_ENTRIES];
-// How many entries each list holds.
-pub type Sizes = [usize; 5];
 
-// The lists' numbers, which are those of their lines' names.
+// How many entries each list holds.
+pub type Sizes = [usize; LIST_COUNT];
+
+// The lists' places among the sizes, the first four also their places behind one another.
 pub const STARTS: usize = 0;
 
 pub const ENDS: usize = 1;
@@ -33,134 +37,148 @@ pub const RATES: usize = 3;
 
 pub const TIMES: usize = 4;
 
-// Changes the tables as a line of theirs says, and answers whether it could. The name is one of theirs.
-pub fn take(
-    name: usize,
+// The places of a layout's numbers in its line.
+const FIELDS: usize = 0;
+
+const DELIMITER: usize = 1;
+
+const MODULI: usize = 2;
+
+const OFFSETS: usize = MODULI + Layout::MOST_FIELDS;
+
+pub enum Taken {
+    Changed,
+    NoRoom,
+}
+
+// Changes the tables as a line of theirs says.
+pub fn take_line(
+    line: TableLine,
     numbers: &Numbers,
     layout: &mut Numbers,
     sizes: &mut Sizes,
     lists: &mut Lists,
     times: &mut TimeList,
-) -> bool
-    requires { ⌜ name < 8 ⌝ }
+) -> Taken
+    requires { ⌜ Fit (now sizes) ⌝ }
+    ensures { λ r. ⌜ Fit (now (sizes .exit)) ⌝ }
     ensures { λ r. ⌜ Keeps r (now (layout .entry)) (now (layout .exit)) ⌝ }
     ensures { λ r. ⌜ Keeps r (now (sizes .entry)) (now (sizes .exit)) ⌝ }
     ensures { λ r. ⌜ Keeps r (now (lists .entry)) (now (lists .exit)) ⌝ }
     ensures { λ r. ⌜ Keeps r (now (times .entry)) (now (times .exit)) ⌝ }
 {
-    if name < TIME {
-        return add(numbers[0], sizes, name, lists);
+    match line {
+        TableLine::Layout => set_layout(numbers, layout),
+        TableLine::Partitions => clear_partitions(sizes),
+        TableLine::Start => add(numbers[0], sizes, STARTS, lists),
+        TableLine::End => add(numbers[0], sizes, ENDS, lists),
+        TableLine::Segments => clear_segments(sizes),
+        TableLine::Count => add(numbers[0], sizes, COUNTS, lists),
+        TableLine::Time => add_time(numbers[0], sizes, times),
+        TableLine::Rate => add(numbers[0], sizes, RATES, lists),
     }
-    if name == TIME {
-        return add_time(numbers[0], sizes, times);
-    }
-    if name == LAYOUT {
-        return set_layout(numbers, layout);
-    }
-    clear(name, sizes)
 }
 
-fn add(number: u64, sizes: &mut Sizes, list: usize, lists: &mut Lists) -> bool
+fn set_layout(numbers: &Numbers, layout: &mut Numbers) -> Taken
+    ensures { λ r. ⌜ Keeps r (now (layout .entry)) (now (layout .exit)) ⌝ }
+{
+    *layout = *numbers;
+    Taken::Changed
+}
+
+fn clear_partitions(sizes: &mut Sizes) -> Taken
+    requires { ⌜ Fit (now sizes) ⌝ }
+    ensures { λ r. ⌜ Fit (now (sizes .exit)) ⌝ }
+    ensures { λ r. ⌜ Keeps r (now (sizes .entry)) (now (sizes .exit)) ⌝ }
+{
+    sizes[STARTS] = 0;
+    sizes[ENDS] = 0;
+    Taken::Changed
+}
+
+fn clear_segments(sizes: &mut Sizes) -> Taken
+    requires { ⌜ Fit (now sizes) ⌝ }
+    ensures { λ r. ⌜ Fit (now (sizes .exit)) ⌝ }
+    ensures { λ r. ⌜ Keeps r (now (sizes .entry)) (now (sizes .exit)) ⌝ }
+{
+    sizes[COUNTS] = 0;
+    sizes[TIMES] = 0;
+    sizes[RATES] = 0;
+    Taken::Changed
+}
+
+fn add(number: u64, sizes: &mut Sizes, list: usize, lists: &mut Lists) -> Taken
     requires { ⌜ list < 4 ⌝ }
+    requires { ⌜ Fit (now sizes) ⌝ }
+    ensures { λ r. ⌜ Fit (now (sizes .exit)) ⌝ }
     ensures { λ r. ⌜ Keeps r (now (sizes .entry)) (now (sizes .exit)) ⌝ }
     ensures { λ r. ⌜ Keeps r (now (lists .entry)) (now (lists .exit)) ⌝ }
 {
     let size = sizes[list];
     if MOST_ENTRIES <= size {
-        return false;
+        return Taken::NoRoom;
     }
     lists[list * MOST_ENTRIES + size] = number;
     sizes[list] = size + 1;
-    true
+    Taken::Changed
 }
 
-fn add_time(ordinal: u64, sizes: &mut Sizes, times: &mut TimeList) -> bool
+fn add_time(ordinal: u64, sizes: &mut Sizes, times: &mut TimeList) -> Taken
+    requires { ⌜ Fit (now sizes) ⌝ }
+    ensures { λ r. ⌜ Fit (now (sizes .exit)) ⌝ }
     ensures { λ r. ⌜ Keeps r (now (sizes .entry)) (now (sizes .exit)) ⌝ }
     ensures { λ r. ⌜ Keeps r (now (times .entry)) (now (times .exit)) ⌝ }
 {
     let size = sizes[TIMES];
     if times.len() <= size {
-        return false;
+        return Taken::NoRoom;
     }
     times[size] = signed::from_ordinal(ordinal);
     sizes[TIMES] = size + 1;
-    true
+    Taken::Changed
 }
 
-fn set_layout(numbers: &Numbers, layout: &mut Numbers) -> bool
-    ensures { λ r. ⌜ Keeps r (now (layout .entry)) (now (layout .exit)) ⌝ }
-{
-    if 255 < numbers[1] {
-        return false;
-    }
-    *layout = *numbers;
-    true
-}
-
-fn clear(name: usize, sizes: &mut Sizes) -> bool
-    ensures { λ r. ⌜ Keeps r (now (sizes .entry)) (now (sizes .exit)) ⌝ }
-{
-    if name == PARTITIONS {
-        sizes[STARTS] = 0;
-        sizes[ENDS] = 0;
-        return true;
-    }
-    sizes[COUNTS] = 0;
-    sizes[TIMES] = 0;
-    sizes[RATES] = 0;
-    true
-}
-
-// The layout that the line's numbers say.
+// The layout that its line's numbers say.
 pub fn layout_of(numbers: &Numbers) -> Layout
     ensures { λ r. ⌜ r .n ≡ getD (now (numbers .entry)) 0 0 ⌝ }
 {
     Layout {
-        n: numbers[0] as usize,
-        moduli: ten(numbers, 2),
-        offsets: ten(numbers, 12),
-        delimiter: low_byte(numbers[1]),
+        n: numbers[FIELDS] as usize,
+        moduli: slots(numbers, MODULI),
+        offsets: slots(numbers, OFFSETS),
+        delimiter: byte_of(numbers[DELIMITER]),
     }
 }
 
-fn ten(numbers: &Numbers, from: usize) -> [u64; 10]
+fn slots(numbers: &Numbers, from: usize) -> [u64; Layout::MOST_FIELDS]
     requires { ⌜ from ≤ 12 ⌝ }
 {
-    let mut slots = [0u64; 10];
+    let mut held = [0u64; Layout::MOST_FIELDS];
     let mut i = 0;
-    while i < 10 {
-        slots[i] = numbers[from + i];
+    while i < Layout::MOST_FIELDS {
+        held[i] = numbers[from + i];
         i += 1;
     }
-    slots
-}
-
-fn low_byte(number: u64) -> u8 {
-    (number % 256) as u8
+    held
 }
 
 // A list's entries.
-pub fn held<'a, 'b>(lists: &'a [u64], list: usize, sizes: &'b Sizes) -> &'a [u64]
+pub fn entries<'a, 'b>(lists: &'a Lists, list: usize, sizes: &'b Sizes) -> &'a [u64]
     requires { ⌜ list < 4 ⌝ }
-    ensures { λ r. ⌜ length (now r) ≤ length (now (lists .entry)) ⌝ }
+    requires { ⌜ Fit (now sizes) ⌝ }
+    ensures { λ r. ⌜ now r ≡ take (getD (now (sizes .entry)) list 0) (drop (list * mostEntries) (now (lists .entry))) ⌝ }
 {
+    let all = &lists[..];
     let from = list * MOST_ENTRIES;
-    let size = sizes[list];
-    if MOST_ENTRIES < size {
-        return lists;
-    }
-    if lists.len() < from + size {
-        return lists;
-    }
-    &lists[from..from + size]
+    let end = from + sizes[list];
+    &all[from..end]
 }
 
-pub fn held_times<'a, 'b>(times: &'a [i64], sizes: &'b Sizes) -> &'a [i64]
-    ensures { λ r. ⌜ length (now r) ≤ length (now (times .entry)) ⌝ }
+pub fn time_entries<'a, 'b>(times: &'a TimeList, sizes: &'b Sizes) -> &'a [i64]
+    requires { ⌜ Fit (now sizes) ⌝ }
+    ensures { λ r. ⌜ now r ≡ take (getD (now (sizes .entry)) 4 0) (now (times .entry)) ⌝ }
 {
-    let size = sizes[TIMES];
-    if times.len() < size {
-        return times;
-    }
-    &times[0..size]
+    let all = &times[..];
+    let end = sizes[TIMES];
+    &all[0..end]
 }

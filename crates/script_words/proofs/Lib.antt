@@ -1,4 +1,4 @@
 -- The laws that the proofs cite.
 mod DoubleBits
-mod Lines
 mod OneDigit
+pub mod WordCases

@@ -1,3 +1,2 @@
 -- What the contracts cite.
-pub mod Lines
-pub mod Places
+pub mod Words

@@ -4,13 +4,13 @@ ghost use mathlib.Core.Bool.{cond};
 ghost use Prim.Native.Nat.{_≤_};
 ghost use lib.ListN.{length, take};
 ghost use Rattle.rules.specs.Examples.{layoutA};
-ghost use Rattle.lines.specs.Lines.{lineBuffer};
 ghost use Rattle.lines.specs.Steps.{lineLeft};
-ghost use Rattle.stamp.specs.Stamps.{stamped, stampOf, timed};
+ghost use Rattle.stamp.specs.Stamps.{stamped, stampOf, timed, lineBuffer};
 use answers::put_refused;
 use answers::put_stamp;
+use answers::with_room;
+use answers::write_out;
 use libc::STDIN_FILENO;
-use libc::STDOUT_FILENO;
 use lines::LineStep;
 use rules::CountAnswer;
 use rules::Layout;
@@ -65,7 +65,7 @@ fn answer_lines(chunk: &[u8], line: &mut [u8], kept: usize) -> usize
     requires { ⌜ length (now line) ≡ lineBuffer ⌝ }
     requires { ⌜ kept ≤ lineBuffer ⌝ }
     ensures { λ r. ⌜ r ≤ lineBuffer ⌝ }
-    ensures { λ r. ⌜ take r (now (line .exit)) ≡ lineLeft (take kept (now (line .entry))) (now (chunk .entry)) ⌝ }
+    ensures { λ r. ⌜ take r (now (line .exit)) ≡ lineLeft lineBuffer (take kept (now (line .entry))) (now (chunk .entry)) ⌝ }
 {
     let mut buffer = io::buffer();
     let out: &mut [u8] = &mut buffer;
@@ -91,7 +91,7 @@ fn settle(step: LineStep, line: &[u8], out: &mut [u8], at: usize) -> Places
 {
     let n = step.kept;
     if step.ended {
-        let place = put_answer(out, with_room(out, at), &line[..n]);
+        let place = put_answer(out, with_room(out, at, LONGEST_ANSWER), &line[..n]);
         return Places {
             kept: 0,
             out: place,
@@ -100,25 +100,8 @@ fn settle(step: LineStep, line: &[u8], out: &mut [u8], at: usize) -> Places
     Places { kept: n, out: at }
 }
 
-// The place for one more answer, after what was put so far is written out where there is no room for it.
-fn with_room(out: &[u8], at: usize) -> usize {
-    if at < out.len() {
-        if LONGEST_ANSWER <= out.len() - at {
-            return at;
-        }
-    }
-    write_out(out, at);
-    0
-}
-
-fn write_out(out: &[u8], at: usize) {
-    if at <= out.len() {
-        io::write_all(STDOUT_FILENO, &out[..at]);
-    }
-}
-
 fn answer_last(line: &[u8]) {
-    let mut buffer = [0u8; 64];
+    let mut buffer = [0u8; LONGEST_ANSWER];
     let out: &mut [u8] = &mut buffer;
     let place = put_answer(out, 0, line);
     write_out(out, place);

@@ -2,7 +2,7 @@ use Prim.Native.Nat.{_≤_}
 use mathlib.Core.Path.{_≡_}
 use lib.ListN.{length}
 use borrow.Author.Needs.{needs}
-use Rattle.lines.specs.Lines.{lineBuffer}
+use Rattle.stamp.specs.Stamps.{lineBuffer}
 use Rattle.stamp.proofs.answer_input.Statement.{statement}
 use Rattle.stamp.proofs.answer_input.Tie as tie
 

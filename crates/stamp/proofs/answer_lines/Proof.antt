@@ -2,14 +2,14 @@ use Prim.Native.Nat.{_-_, _≤_}
 use mathlib.Core.Path.{_≡_}
 use lib.ListN.{length, take, drop}
 use borrow.Author.Needs.{needs}
-use Rattle.lines.specs.Lines.{lineBuffer}
+use Rattle.stamp.specs.Stamps.{lineBuffer}
 use Rattle.lines.specs.Steps.{lineLeft}
 use Rattle.lines.proofs.Turn.{left-turn, left-done}
 use Rattle.stamp.proofs.answer_lines.Statement.{statement}
 use Rattle.stamp.proofs.answer_lines.Tie as tie
 
 abbrev Inv-loop : tie.InvT-loop
-Inv-loop chunk line₀ kept out₀ at₀ held₀ place₀ line out at held place = (at ≤ length chunk) × (held ≤ lineBuffer) × (length line ≡ length line₀) × (lineLeft (take kept line₀) chunk ≡ lineLeft (take held line) (drop at chunk))
+Inv-loop chunk line₀ kept out₀ at₀ held₀ place₀ line out at held place = (at ≤ length chunk) × (held ≤ lineBuffer) × (length line ≡ lineBuffer) × (lineLeft lineBuffer (take kept line₀) chunk ≡ lineLeft lineBuffer (take held line) (drop at chunk))
 
 abbrev μ-loop : tie.MeasureT-loop
 μ-loop chunk line₀ kept out₀ at₀ held₀ place₀ line out at held place = length chunk - at

@@ -1,0 +1,120 @@
+// What one line of a script does: it changes the tables, or it is a question and has an answer.
+ghost use Prim.Native.Nat.{_≤_};
+ghost use lib.ListN.{length};
+ghost use Rattle.answers.specs.Places.{Put};
+ghost use Rattle.script_tables.specs.Sizes.{Fit};
+use script_names::Line;
+use script_names::Numbers;
+use script_names::Question;
+use script_names::TableLine;
+use script_tables::COUNTS;
+use script_tables::ENDS;
+use script_tables::Lists;
+use script_tables::RATES;
+use script_tables::STARTS;
+use script_tables::Sizes;
+use script_tables::Taken;
+use script_tables::TimeList;
+
+pub const LONGEST_LINE: usize = 8192;
+
+// Changes the tables as the line says, or puts its answer into the output, and answers the place after it.
+pub fn answer_line(
+    line: &[u8],
+    layout: &mut Numbers,
+    sizes: &mut Sizes,
+    lists: &mut Lists,
+    times: &mut TimeList,
+    out: &mut [u8],
+    place: usize,
+) -> usize
+    requires { ⌜ Fit (now sizes) ⌝ }
+    ensures { λ r. ⌜ Fit (now (sizes .exit)) ⌝ }
+    ensures { λ r. ⌜ Put place (now (out .entry)) r ⌝ }
+{
+    if LONGEST_LINE < line.len() {
+        return answers::put_bad(out, place);
+    }
+    let mut numbers = [0u64; script_names::MOST_NUMBERS];
+    let read = script_names::read(line, &mut numbers);
+    let rest = read.rest;
+    let what = read.line;
+    match what {
+        Line::Table(table) => change_tables(
+            table,
+            &numbers,
+            layout,
+            sizes,
+            lists,
+            times,
+            out,
+            place,
+        ),
+        Line::Ask(question) => ask(
+            question,
+            &numbers,
+            line,
+            rest,
+            layout,
+            sizes,
+            lists,
+            times,
+            out,
+            place,
+        ),
+        Line::PassedOver => place,
+        Line::Bad => answers::put_bad(out, place),
+    }
+}
+
+fn change_tables(
+    line: TableLine,
+    numbers: &Numbers,
+    layout: &mut Numbers,
+    sizes: &mut Sizes,
+    lists: &mut Lists,
+    times: &mut TimeList,
+    out: &mut [u8],
+    place: usize,
+) -> usize
+    requires { ⌜ Fit (now sizes) ⌝ }
+    ensures { λ r. ⌜ Fit (now (sizes .exit)) ⌝ }
+    ensures { λ r. ⌜ Put place (now (out .entry)) r ⌝ }
+{
+    match script_tables::take_line(line, numbers, layout, sizes, lists, times) {
+        Taken::Changed => place,
+        Taken::NoRoom => answers::put_bad(out, place),
+    }
+}
+
+fn ask(
+    question: Question,
+    numbers: &Numbers,
+    line: &[u8],
+    rest: usize,
+    layout: &Numbers,
+    sizes: &Sizes,
+    lists: &Lists,
+    times: &TimeList,
+    out: &mut [u8],
+    place: usize,
+) -> usize
+    requires { ⌜ rest ≤ length (now line) ⌝ }
+    requires { ⌜ Fit (now sizes) ⌝ }
+    ensures { λ r. ⌜ Put place (now (out .entry)) r ⌝ }
+{
+    questions::answer(
+        question,
+        numbers,
+        line,
+        rest,
+        script_tables::layout_of(layout),
+        script_tables::entries(lists, STARTS, sizes),
+        script_tables::entries(lists, ENDS, sizes),
+        script_tables::entries(lists, COUNTS, sizes),
+        script_tables::time_entries(times, sizes),
+        script_tables::entries(lists, RATES, sizes),
+        out,
+        place,
+    )
+}

@@ -1,0 +1,46 @@
+use Rattle.script_names.proofs.RowCases.{of-form}
+use Rattle.script_words.specs.Words.{largest}
+use Rattle.script_names.specs.Rows.{greatest}
+use borrow.Author.Needs.{needs}
+use Rattle.script_names.proofs.word_at.Statement.{statement}
+use Rattle.script_names.proofs.word_at.Tie as tie
+
+returns-3 : tie.Need-returns-3
+unfolding greatest
+returns-3 c = search (of-form 110 largest, needs)
+
+returns-4 : tie.Need-returns-4
+unfolding greatest
+returns-4 c = search (of-form 98 255, needs)
+
+returns-5 : tie.Need-returns-5
+unfolding greatest
+returns-5 c = search (of-form 108 256, needs)
+
+returns-6 : tie.Need-returns-6
+unfolding greatest
+returns-6 c = search (of-form 116 largest, needs)
+
+returns-7 : tie.Need-returns-7
+unfolding greatest
+returns-7 c = search (of-form 100 largest, needs)
+
+pub word-at-spec : {M : Type 1} → statement M
+word-at-spec =
+    tie.close
+    (tie.spec
+    (λ c. search needs)
+    (λ c. search needs)
+    (λ c. search needs)
+    (λ c. search needs)
+    (λ c κs. search needs)
+    (λ c κs. search needs)
+    (λ c κs. search needs)
+    (λ c κs. search needs)
+    (λ c κs. search needs)
+    returns-3
+    returns-4
+    returns-5
+    returns-6
+    returns-7
+    (λ c. search needs))
