@@ -5,8 +5,12 @@ use libc::STDOUT_FILENO;
 use rules::CountAnswer;
 use rules::DoubleAnswer;
 use rules::PrintAnswer;
+use rules::ReadAnswer;
+use rules::Refusal;
+use rules::StampAnswer;
 use rules::StepsBackAnswer;
 use rules::TimeAnswer;
+use rules::TimedStamp;
 
 const LINE_END: u8 = b'\n';
 
@@ -42,12 +46,21 @@ pub fn put_bad(out: &mut [u8], at: usize) -> usize
     put_line(out, at, b"bad ", b"line")
 }
 
+pub fn put_reading(out: &mut [u8], at: usize, answer: ReadAnswer) -> usize
+    ensures { λ r. ⌜ Put at (now (out .entry)) r ⌝ }
+{
+    match answer {
+        ReadAnswer::Read(reading) => put_number(out, at, b"ok ", reading.count),
+        ReadAnswer::Refused(refusal) => put_refused(out, at, refusal),
+    }
+}
+
 pub fn put_count(out: &mut [u8], at: usize, answer: CountAnswer) -> usize
     ensures { λ r. ⌜ Put at (now (out .entry)) r ⌝ }
 {
     match answer {
-        CountAnswer::Count(count) => put_number(out, at, b"ok ", count),
-        CountAnswer::Refused(number) => put_refused(out, at, number),
+        CountAnswer::Count(found) => put_number(out, at, b"ok ", found.count),
+        CountAnswer::Refused(refusal) => put_refused(out, at, refusal),
     }
 }
 
@@ -55,8 +68,8 @@ pub fn put_time(out: &mut [u8], at: usize, answer: TimeAnswer) -> usize
     ensures { λ r. ⌜ Put at (now (out .entry)) r ⌝ }
 {
     match answer {
-        TimeAnswer::Time(time) => put_ordinal(out, at, b"ok ", signed::ordinal(time)),
-        TimeAnswer::Refused(number) => put_refused(out, at, number),
+        TimeAnswer::Time(found) => put_ordinal(out, at, b"ok ", signed::ordinal(found.time)),
+        TimeAnswer::Refused(refusal) => put_refused(out, at, refusal),
     }
 }
 
@@ -66,7 +79,7 @@ pub fn put_steps_back(out: &mut [u8], at: usize, answer: StepsBackAnswer) -> usi
     match answer {
         StepsBackAnswer::Yes => put_line(out, at, b"ok ", b"yes"),
         StepsBackAnswer::No => put_line(out, at, b"ok ", b"no"),
-        StepsBackAnswer::Refused(number) => put_refused(out, at, number),
+        StepsBackAnswer::Refused(refusal) => put_refused(out, at, refusal),
     }
 }
 
@@ -75,7 +88,7 @@ pub fn put_double(out: &mut [u8], at: usize, answer: DoubleAnswer) -> usize
 {
     match answer {
         DoubleAnswer::Double(double) => put_bits(out, at, to_bits(double)),
-        DoubleAnswer::Refused(number) => put_refused(out, at, number),
+        DoubleAnswer::Refused(refusal) => put_refused(out, at, refusal),
     }
 }
 
@@ -85,24 +98,33 @@ pub fn put_print(out: &mut [u8], at: usize, answer: PrintAnswer, lent: &[u8]) ->
 {
     match answer {
         PrintAnswer::Length(length) => put_lent(out, at, b"ok ", length as u64, lent),
-        PrintAnswer::Refused(number) => put_lent(out, at, b"refused ", number, lent),
+        PrintAnswer::Refused(refusal) => put_lent(out, at, b"refused ", refusal.number, lent),
     }
 }
 
-// The encoded count of a stamp, and its time.
-pub fn put_stamp(out: &mut [u8], at: usize, count: u64, time: i64) -> usize
+// The encoded count of a stamp and its time, without `ok`.
+pub fn put_stamp(out: &mut [u8], at: usize, answer: StampAnswer) -> usize
+    ensures { λ r. ⌜ Put at (now (out .entry)) r ⌝ }
+{
+    match answer {
+        StampAnswer::Stamp(stamp) => put_timed(out, at, stamp),
+        StampAnswer::Refused(refusal) => put_refused(out, at, refusal),
+    }
+}
+
+fn put_timed(out: &mut [u8], at: usize, stamp: TimedStamp) -> usize
     ensures { λ r. ⌜ Put at (now (out .entry)) r ⌝ }
 {
     let mut digits = [0u8; 20];
-    let n = io::decimal(count, &mut digits);
+    let n = io::decimal(stamp.count, &mut digits);
     let place = put(out, at, &digits[..n]);
-    put_ordinal(out, place, b" ", signed::ordinal(time))
+    put_ordinal(out, place, b" ", signed::ordinal(stamp.time))
 }
 
-pub fn put_refused(out: &mut [u8], at: usize, number: u64) -> usize
+fn put_refused(out: &mut [u8], at: usize, refusal: Refusal) -> usize
     ensures { λ r. ⌜ Put at (now (out .entry)) r ⌝ }
 {
-    put_number(out, at, b"refused ", number)
+    put_number(out, at, b"refused ", refusal.number)
 }
 
 fn put_number(out: &mut [u8], at: usize, head: &[u8], number: u64) -> usize

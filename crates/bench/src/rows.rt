@@ -154,7 +154,10 @@ pub fn bench_stamps(
     let mut k: u64 = 0;
     while k < asked {
         x = next(x);
-        sum = mixed(sum, stamp_time(texts, (x % 256) as usize * TEXT, counts, times, rates));
+        sum = mixed(
+            sum,
+            stamp_time(texts, (x % 256) as usize * TEXT, counts, times, rates),
+        );
         k += 1;
     }
     line(b"stamp-time-100", asked, sum, timed, from);
@@ -167,7 +170,15 @@ fn stamp_time(texts: &[u8], at: usize, counts: &[u64], times: &[i64], rates: &[u
     if texts.len() < end {
         return 0;
     }
-    match stamp_time::time_of_stamp(layout(), &[0], &[LAST], counts, times, rates, &texts[at..end]) {
+    match stamp_time::time_of_stamp(
+        layout(),
+        &[0],
+        &[LAST],
+        counts,
+        times,
+        rates,
+        &texts[at..end],
+    ) {
         StampAnswer::Stamp(stamp) => stamp.count ^ signed::ordinal(stamp.time),
         StampAnswer::Refused(refusal) => refusal.number,
     }

@@ -2,7 +2,7 @@
 ghost use Prim.Native.Nat.{_≤_};
 ghost use lib.ListN.{length};
 ghost use Rattle.answers.specs.Places.{Put};
-use doubles::DoubleSegment;
+use rules::DoubleSegment;
 use rules::Layout;
 use script_names::Numbers;
 use script_names::Question;
@@ -68,7 +68,7 @@ fn read_text(line: &[u8], rest: usize, layout: Layout, out: &mut [u8], place: us
     match read_bytes(line, rest, &mut bytes) {
         ByteWord::Length(n) => {
             let answer = text::read_text(layout, first_bytes(&bytes, n));
-            answers::put_count(out, place, answer)
+            answers::put_reading(out, place, answer)
         }
         ByteWord::Bad => answers::put_bad(out, place),
     }
@@ -90,7 +90,7 @@ fn read_stamp(
     match read_bytes(line, rest, &mut bytes) {
         ByteWord::Length(n) => {
             let answer = text::read_stamp(layout, starts, ends, first_bytes(&bytes, n));
-            answers::put_count(out, place, answer)
+            answers::put_reading(out, place, answer)
         }
         ByteWord::Bad => answers::put_bad(out, place),
     }
@@ -112,7 +112,7 @@ fn read_message(
     match read_bytes(line, rest, &mut bytes) {
         ByteWord::Length(n) => {
             let answer = message::read_message(layout, starts, ends, first_bytes(&bytes, n));
-            answers::put_count(out, place, answer)
+            answers::put_reading(out, place, answer)
         }
         ByteWord::Bad => answers::put_bad(out, place),
     }

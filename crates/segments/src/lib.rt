@@ -19,13 +19,7 @@ pub enum CheckAnswer {
 }
 
 // `unit` is the layout's 1,000×MSF, `total` that of the partitions.
-pub fn check(
-    unit: u64,
-    total: u64,
-    counts: &[u64],
-    times: &[i64],
-    rates: &[u64],
-) -> CheckAnswer
+pub fn check(unit: u64, total: u64, counts: &[u64], times: &[i64], rates: &[u64]) -> CheckAnswer
     requires { ⌜ 1 ≤ unit ⌝ }
     ensures { λ r. ⌜ checkAnswer r ≡ acceptedSegments unit total (segments (now (counts .entry)) (now (times .entry)) (now (rates .entry))) ⌝ }
 {

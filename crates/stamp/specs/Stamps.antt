@@ -2,32 +2,14 @@
 use Prim.Native.Nat.{ℕ}
 use mathlib.Core.Path.{_≡_, refl}
 use mathlib.Core.List.{List}
-use lib.IntN.{ℤ}
 use Rattle.lines.specs.Lines.{roomFor}
-use Rattle.rules.specs.Answer.{Answer, answer, refused, andThen}
-use Rattle.rules.specs.Stamp.{readStamp}
-use Rattle.rules.specs.Time.{timeOf}
+use Rattle.rules.specs.declared.TimedStamp.{TimedStamp}
+use Rattle.rules.specs.Answer.{Answer}
+use Rattle.rules.specs.StampTime.{timeOfStamp}
 use Rattle.rules.specs.Examples.{layoutA, partitionsA, segmentsA}
-use Rattle.stamp.specs.declared.Stamped.{Stamped}
-use Rattle.stamp.specs.declared.Stamped.the-variants as Of
 
-pub record Stamp : Type 0 where
-  pub count : ℕ
-  pub time : ℤ
-
-unfoldable pub stamp : ℕ → ℤ → Stamp
-stamp c t = record { count = c; time = t }
-
-abbrev pub stamped : Stamped → Answer Stamp
-stamped (Of.At c t) = answer (stamp c t)
-stamped (Of.Refused k) = refused k
-
--- an encoded count with its time
-unfoldable pub timed : ℕ → Answer Stamp
-timed c = andThen (timeOf layoutA partitionsA segmentsA c) (λ t. answer (stamp c t))
-
-unfoldable pub stampOf : List ℕ → Answer Stamp
-stampOf line = andThen (readStamp layoutA partitionsA line) timed
+unfoldable pub lineStamp : List ℕ → Answer TimedStamp
+lineStamp line = timeOfStamp layoutA partitionsA segmentsA line
 
 -- "A line over 96 bytes"
 abbrev pub longestLine : ℕ

@@ -3,24 +3,18 @@ ghost use mathlib.Core.Path.{_≡_};
 ghost use mathlib.Core.Bool.{cond};
 ghost use Prim.Native.Nat.{_≤_};
 ghost use lib.ListN.{length, take};
+ghost use Rattle.rules.specs.Answer.{stampAnswer};
 ghost use Rattle.rules.specs.Examples.{layoutA};
 ghost use Rattle.lines.specs.Steps.{lineLeft};
-ghost use Rattle.stamp.specs.Stamps.{stamped, stampOf, timed, lineBuffer};
-use answers::put_refused;
+ghost use Rattle.stamp.specs.Stamps.{lineStamp, lineBuffer};
 use answers::put_stamp;
 use answers::with_room;
 use answers::write_out;
 use libc::STDIN_FILENO;
 use lines::LineStep;
-use rules::CountAnswer;
 use rules::Layout;
-use rules::TimeAnswer;
-
-// What a line prints.
-pub enum Stamped {
-    At(u64, i64),
-    Refused(u64),
-}
+use rules::StampAnswer;
+use stamp_time::time_of_stamp;
 
 // Where the next line's kept bytes and the next answer go on.
 pub struct Places {
@@ -108,36 +102,19 @@ fn answer_last(line: &[u8]) {
 }
 
 fn put_answer(out: &mut [u8], at: usize, line: &[u8]) -> usize {
-    match answer(line) {
-        Stamped::At(count, time) => put_stamp(out, at, count, time),
-        Stamped::Refused(number) => put_refused(out, at, number),
-    }
+    put_stamp(out, at, answer(line))
 }
 
 // A line under table A. One of 97 bytes stands for every line over 96 bytes: the stamp reader refuses it 4.
-fn answer(line: &[u8]) -> Stamped
-    ensures { λ r. ⌜ stamped r ≡ stampOf (now (line .entry)) ⌝ }
-{
-    let starts = [0u64, 200];
-    let ends = [500u64, 900];
-    match text::read_stamp(table_a(), &starts, &ends, line) {
-        CountAnswer::Count(count) => with_time(count),
-        CountAnswer::Refused(number) => refused(number),
-    }
-}
-
-fn with_time(count: u64) -> Stamped
-    ensures { λ r. ⌜ stamped r ≡ timed count ⌝ }
+fn answer(line: &[u8]) -> StampAnswer
+    ensures { λ r. ⌜ stampAnswer r ≡ lineStamp (now (line .entry)) ⌝ }
 {
     let starts = [0u64, 200];
     let ends = [500u64, 900];
     let counts = [0u64, 600];
     let times = [-1000i64, 1000];
     let rates = [25_000u64, 30_000];
-    match time::time_of(table_a(), &starts, &ends, &counts, &times, &rates, count) {
-        TimeAnswer::Time(time) => at(count, time),
-        TimeAnswer::Refused(number) => refused(number),
-    }
+    time_of_stamp(table_a(), &starts, &ends, &counts, &times, &rates, line)
 }
 
 fn table_a() -> Layout
@@ -146,19 +123,7 @@ fn table_a() -> Layout
     Layout {
         n: 2,
         moduli: [100, 10, 0, 0, 0, 0, 0, 0, 0, 0],
-        offsets: [0; 10],
+        offsets: [0; Layout::MOST_FIELDS],
         delimiter: 1,
     }
-}
-
-fn at(count: u64, time: i64) -> Stamped
-    ensures { λ r. ⌜ r ≡ Stamped.At count time ⌝ }
-{
-    Stamped::At(count, time)
-}
-
-fn refused(number: u64) -> Stamped
-    ensures { λ r. ⌜ r ≡ Stamped.Refused number ⌝ }
-{
-    Stamped::Refused(number)
 }

@@ -32,8 +32,22 @@ pub fn time_of_stamp(
 {
     let n = layout.n;
     match accept_stamps(measure(layout), starts, ends) {
-        Acceptance::Accepted(b) => match stamp_in(&layout.moduli, &layout.offsets, n, starts, ends, text) {
-            ReadAnswer::Read(reading) => timed(b.unit, b.total, counts, times, rates, reading.count),
+        Acceptance::Accepted(b) => match stamp_in(
+            &layout.moduli,
+            &layout.offsets,
+            n,
+            starts,
+            ends,
+            text,
+        ) {
+            ReadAnswer::Read(reading) => timed(
+                b.unit,
+                b.total,
+                counts,
+                times,
+                rates,
+                reading.count,
+            ),
             ReadAnswer::Refused(k) => StampAnswer::Refused(k),
         },
         Acceptance::Refused(k) => StampAnswer::Refused(k),

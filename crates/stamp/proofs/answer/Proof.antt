@@ -1,4 +1,4 @@
-use Rattle.stamp.proofs.Laws.{has-count, no-count}
+use Rattle.stamp.proofs.TableA.{under-table-a}
 use borrow.Author.Needs.{needs}
 use Rattle.stamp.proofs.answer.Statement.{statement}
 use Rattle.stamp.proofs.answer.Tie as tie
@@ -10,10 +10,8 @@ answer-spec =
     (λ c κs. search needs)
     (λ c. search needs)
     (λ c. search needs)
-    (λ c κs. search needs)
+    (λ c. search needs)
+    (λ c. search needs)
     (λ c. search needs)
     (λ c κs. search needs)
-    (λ c. search needs)
-    (λ c κs. search needs)
-    (λ c. search (has-count, needs))
-    (λ c. search (no-count, needs)))
+    (λ c. search (under-table-a, needs)))
