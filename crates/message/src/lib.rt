@@ -3,33 +3,59 @@ ghost use mathlib.Core.Path.{_≡_};
 ghost use Prim.Native.Nat.{_+_, _*_};
 ghost use Rattle.rules.specs.Answer.{readAnswer};
 ghost use Rattle.rules.specs.Partitions.{partitions};
-ghost use Rattle.rules.specs.Message.{readMessage};
+ghost use Rattle.rules.specs.Message.{textIn, readMessage};
+ghost use Rattle.message.specs.Part.{textStart, startIn, TextAt};
 use layouts::limits::LONGEST_TEXT;
 use rules::Layout;
 use rules::ReadAnswer;
+use rules::Refusal;
 use text::read_stamp;
+
+// Where the text begins.
+pub enum TextStart {
+    At(usize),
+    Refused(Refusal),
+}
 
 // A message to its stamp's encoded count.
 pub fn read_message(layout: Layout, starts: &[u64], ends: &[u64], message: &[u8]) -> ReadAnswer
     ensures { λ r. ⌜ readAnswer r ≡ readMessage layout (partitions (now (starts .entry)) (now (ends .entry))) (now (message .entry)) ⌝ }
 {
+    match text_start(message) {
+        TextStart::At(start) => read_stamp(layout, starts, ends, text_part(message, start)),
+        TextStart::Refused(k) => ReadAnswer::Refused(k),
+    }
+}
+
+// The trailer's L is checked here, before anything goes by it.
+pub fn text_start(message: &[u8]) -> TextStart
+    ensures { λ r. ⌜ textStart r ≡ startIn (now (message .entry)) ⌝ }
+{
     let length = message.len();
     if length < 2 {
-        return ReadAnswer::Refused(refusals::MESSAGE);
+        return TextStart::Refused(refusals::MESSAGE);
     }
     let end = length - 2;
     let distance = number(message[end], message[length - 1]);
     if distance < 1 {
-        return ReadAnswer::Refused(refusals::MESSAGE);
+        return TextStart::Refused(refusals::MESSAGE);
     }
     if LONGEST_TEXT < distance {
-        return ReadAnswer::Refused(refusals::MESSAGE);
+        return TextStart::Refused(refusals::MESSAGE);
     }
     if end < distance {
-        return ReadAnswer::Refused(refusals::MESSAGE);
+        return TextStart::Refused(refusals::MESSAGE);
     }
-    let start = end - distance;
-    read_stamp(layout, starts, ends, &message[start..end])
+    TextStart::At(end - distance)
+}
+
+// The bytes from there to the trailer.
+pub fn text_part(message: &[u8], start: usize) -> &[u8]
+    requires { ⌜ TextAt (now message) start ⌝ }
+    ensures { λ r. ⌜ now r ≡ textIn (now (message .entry)) ⌝ }
+{
+    let end = message.len() - 2;
+    &message[start..end]
 }
 
 // Of two bytes, high byte first.

@@ -18,7 +18,7 @@ use Rattle.rules.specs.declared.Refusal.{Refusal}
 use Rattle.rules.specs.declared.Reading.{Reading}
 use Rattle.rules.specs.Answer.{Answer, answer, refused, numbered, unless, andThen}
 use Rattle.rules.specs.Layout.{moduliOf, offsetsOf}
-use Rattle.rules.specs.Partitions.{Partitions}
+use Rattle.rules.specs.Partitions.{Partitions, totalOf}
 use Rattle.rules.specs.Segments.{Segments}
 use Rattle.rules.specs.Text.{Field, readText, parseText, bytesCount, fieldsCount, eachField}
 use Rattle.rules.specs.Stamp.{Parsed, named, unnamed, readStamp, parseStamp, parsedAt, encode, encodeNamed, encodeFound, encodeFirst}
@@ -26,8 +26,8 @@ use Rattle.rules.specs.Message.{readMessage, messageOk, textLength, textIn}
 use Rattle.rules.specs.Print.{printCount, printStamp, fitting}
 use Rattle.rules.specs.Time.{timeOf, timeIn, timeOn, countAt, countIn, countOn, notBeyond, stepsBackIn, accepted, segmentOf, segmentAt}
 use Rattle.rules.specs.Doubles.{finiteAnswer, forwardDouble, backDouble}
-use Rattle.rules.specs.StampTime.{withTime, timeOfStamp}
-use Rattle.rules.proofs.Answers.{not-answer}
+use Rattle.rules.specs.StampTime.{withTime, timeOfStamp, timeOfMessage}
+use Rattle.rules.proofs.Answers.{not-answer, unless-rest}
 use Rattle.outcomes.specs.Refusals.{
   textRefusals,
   stampRefusals,
@@ -37,6 +37,7 @@ use Rattle.outcomes.specs.Refusals.{
   timeOfRefusals,
   countAtRefusals,
   timeOfStampRefusals,
+  timeOfMessageRefusals,
   stepsBackRefusals,
   doubleRefusals,
   OnlyRefuses,
@@ -61,6 +62,14 @@ then : {A B : Type 0} (ks : List ℕ) (a : Answer A) (f : A → Answer B) → On
 unfolding andThen
 then ks (answer x) f h g = g x refl
 then ks (refused k) f h g = refuses ks k (h k refl)
+
+-- the text of a message has at most 96 bytes
+message-short : (m : List ℕ) → messageOk m ≡ true → leb (length (textIn m)) longestText ≡ true
+unfolding messageOk textIn
+message-short m h = le-leb _ _ (short (leb-true _ _ (all-of-head _ _ (all-of-tail _ _ (all-of-tail _ _ h)))))
+  where
+    short : textLength m ≤ longestText → length (take (textLength m) (drop (length m - 2 - textLength m) m)) ≤ longestText
+    short b = omega (arith, length-take (textLength m) (drop (length m - 2 - textLength m) m))
 
 -- the bytes of a text, under any set that has 5 to 9
 module _
@@ -105,6 +114,13 @@ module _
         unfolding readStamp
         stamp-only l s h = rung ks 1 _ _ one (rung ks 2 _ _ two (then ks _ _ h (λ x _. encode-only x)))
 
+        message-only : among 17 ks ≡ true → (l : Layout) (m : List ℕ) → OnlyRefuses ks (readMessage l p m)
+        unfolding readMessage parseStamp unless
+        message-only h l m =
+            by-test (messageOk m)
+            (λ t. rw t (stamp-only l (textIn m) (rw (message-short m t) (parsed-only _ _ _ _))))
+            (λ f. rw f (refuses ks (numbered 17) h))
+
 fitting-only : (ks : List ℕ) → among 16 ks ≡ true → (room : ℕ) (s : List ℕ) → OnlyRefuses ks (fitting room s)
 unfolding fitting
 fitting-only ks h room s = rung ks 16 _ _ h (answers ks s)
@@ -125,33 +141,34 @@ unfolding countOn notBeyond countAtRefusals among
 count-only unit total g t none = refuses countAtRefusals (numbered 13) refl
 count-only unit total g t (some i) = rung countAtRefusals 14 _ _ refl (answers countAtRefusals _)
 
--- the text of a message has at most 96 bytes
-message-short : (m : List ℕ) → messageOk m ≡ true → leb (length (textIn m)) longestText ≡ true
-unfolding messageOk textIn
-message-short m h = le-leb _ _ (short (leb-true _ _ (all-of-head _ _ (all-of-tail _ _ (all-of-tail _ _ h)))))
-  where
-    short : textLength m ≤ longestText → length (take (textLength m) (drop (length m - 2 - textLength m) m)) ≤ longestText
-    short b = omega (arith, length-take (textLength m) (drop (length m - 2 - textLength m) m))
-
-message-only : (l : Layout) (p : Partitions) (m : List ℕ) → OnlyRefuses messageRefusals (readMessage l p m)
-unfolding readMessage parseStamp messageRefusals among unless
-message-only l p m =
-    let ks = messageRefusals in
-    by-test (messageOk m)
-    (λ t. rw t (stamp-only ks refl refl refl refl refl refl refl refl refl p l (textIn m) (rw (message-short m t) (parsed-only ks refl refl refl refl refl _ _ _ _))))
-    (λ f. rw f (refuses ks (numbered 17) refl))
-
 -- the encoded count of a stamp is at most the total, so that no 12 comes
 time-within : (ks : List ℕ) → among 13 ks ≡ true → (unit total : ℕ) (g : Segments) (e : ℕ) → leb e total ≡ true → OnlyRefuses ks (timeIn unit total g e)
 unfolding timeIn unless
 time-within ks h unit total g e b = rw b (time-only ks h unit g e (segmentOf (g .counts) e))
 
+timed-only : (ks : List ℕ) → among 1 ks ≡ true → among 2 ks ≡ true → among 3 ks ≡ true → among 13 ks ≡ true → (l : Layout) (p : Partitions) (g : Segments) (a : Answer Reading)
+    → OnlyRefuses ks a → ((r : Reading) → a ≡ answer r → leb (r .count) (totalOf p) ≡ true) → OnlyRefuses ks (andThen a (λ r. withTime l p g (r .count)))
+unfolding withTime timeOf
+timed-only ks h1 h2 h3 h13 l p g a f w =
+    then ks _ _ f (λ r h. then ks _ _ (accepted-only ks h1 h2 h3 l p g _ (time-within ks h13 _ _ g _ (w r h))) (λ t _. answers ks _))
+
 stamp-time-only : (l : Layout) (p : Partitions) (g : Segments) (s : List ℕ) → OnlyRefuses timeOfStampRefusals (timeOfStamp l p g s)
-unfolding timeOfStamp withTime timeOf timeOfStampRefusals among
+unfolding timeOfStamp timeOfStampRefusals among
 stamp-time-only l p g s =
     let ks = timeOfStampRefusals in
-    then ks _ _ (stamp-only ks refl refl refl refl refl refl refl refl refl p l s (parse-only ks refl refl refl refl refl refl _ _ s))
-    (λ r h. then ks _ _ (accepted-only ks refl refl refl l p g _ (time-within ks refl _ _ g _ (stamp-within l p s r h))) (λ t _. answers ks _))
+    timed-only ks refl refl refl refl l p g _
+    (stamp-only ks refl refl refl refl refl refl refl refl refl p l s (parse-only ks refl refl refl refl refl refl _ _ s))
+    (stamp-within l p s)
+
+message-within : (l : Layout) (p : Partitions) (m : List ℕ) (r : Reading) → readMessage l p m ≡ answer r → leb (r .count) (totalOf p) ≡ true
+unfolding readMessage
+message-within l p m r h = stamp-within l p (textIn m) r (unless-rest 17 (messageOk m) _ r h)
+
+message-time-only : (l : Layout) (p : Partitions) (g : Segments) (m : List ℕ) → OnlyRefuses timeOfMessageRefusals (timeOfMessage l p g m)
+unfolding timeOfMessage timeOfMessageRefusals among
+message-time-only l p g m =
+    let ks = timeOfMessageRefusals in
+    timed-only ks refl refl refl refl l p g _ (message-only ks refl refl refl refl refl refl refl refl refl p refl l m) (message-within l p m)
 
 fifteen : {A : Type 0} (b : Bool) (a : Answer A) → OnlyRefuses doubleRefusals a → OnlyRefuses doubleRefusals (unless 15 b a)
 unfolding doubleRefusals among
@@ -162,17 +179,18 @@ unfolding finiteAnswer
 double-result x = fifteen _ _ (answers doubleRefusals x)
 
 pub only-those : Refusals
-unfolding forwardDouble backDouble readText parseText printCount printStamp timeOf timeIn countAt countIn stepsBackIn textRefusals stampRefusals printCountRefusals printStampRefusals timeOfRefusals countAtRefusals stepsBackRefusals among
+unfolding forwardDouble backDouble readText parseText printCount printStamp timeOf timeIn countAt countIn stepsBackIn textRefusals stampRefusals messageRefusals printCountRefusals printStampRefusals timeOfRefusals countAtRefusals stepsBackRefusals among
 only-those =
     record {
       text = λ l s. rung textRefusals 1 _ _ refl (rung textRefusals 4 _ _ refl (bytes-only textRefusals refl refl refl refl refl _ _ s));
       stamp = λ l p s. stamp-only stampRefusals refl refl refl refl refl refl refl refl refl p l s (parse-only stampRefusals refl refl refl refl refl refl _ _ s);
-      message = message-only;
+      message = λ l p m. message-only messageRefusals refl refl refl refl refl refl refl refl refl p refl l m;
       print-count = λ l c room. rung printCountRefusals 1 _ _ refl (rung printCountRefusals 9 _ _ refl (fitting-only printCountRefusals refl room _));
       print-stamp = λ l p e room. rung printStampRefusals 1 _ _ refl (rung printStampRefusals 2 _ _ refl (rung printStampRefusals 12 _ _ refl (fitting-only printStampRefusals refl room _)));
       time-of = λ l p g e. accepted-only timeOfRefusals refl refl refl l p g _ (rung timeOfRefusals 12 _ _ refl (time-only timeOfRefusals refl _ g e (segmentOf (g .counts) e)));
       count-at = λ l p g t. accepted-only countAtRefusals refl refl refl l p g _ (rung countAtRefusals 14 _ _ refl (count-only _ _ g t (segmentAt (g .times) t)));
       time-of-stamp = stamp-time-only;
+      time-of-message = message-time-only;
       steps-back = λ l p g. accepted-only stepsBackRefusals refl refl refl l p g _ (answers stepsBackRefusals _);
       forward = λ s msf c. fifteen _ _ (fifteen _ _ (fifteen _ _ (fifteen _ _ (fifteen _ _ (double-result _)))));
       back = λ s msf t. fifteen _ _ (fifteen _ _ (fifteen _ _ (fifteen _ _ (fifteen _ _ (double-result _)))));

@@ -13,7 +13,7 @@ use Rattle.rules.specs.Stamp.{readStamp}
 use Rattle.rules.specs.Message.{readMessage}
 use Rattle.rules.specs.Print.{printCount, printStamp}
 use Rattle.rules.specs.Time.{timeOf, countAt, stepsBackIn}
-use Rattle.rules.specs.StampTime.{timeOfStamp}
+use Rattle.rules.specs.StampTime.{timeOfStamp, timeOfMessage}
 use Rattle.rules.specs.Computing.{computing}
 use Rattle.rules.specs.Examples.{bytes, layoutA, partitionsA, segmentsA, layoutB}
 use Rattle.outcomes.specs.Refusals.{
@@ -25,6 +25,7 @@ use Rattle.outcomes.specs.Refusals.{
   timeOfRefusals,
   countAtRefusals,
   timeOfStampRefusals,
+  timeOfMessageRefusals,
   stepsBackRefusals,
 }
 
@@ -77,7 +78,13 @@ pub refusals-given :
     ∷ timeOfStamp layoutA partitionsA segmentsA (bytes "3/1") ∷ timeOfStamp layoutA partitionsA segmentsA (bytes "1/50.1")
     ∷ timeOfStamp layoutA partitionsA noSegments (bytes "1/0.0") ∷ timeOfStamp layoutA partitionsA lateSegments (bytes "1/0.0") ∷ [])
     ≡ map refuse timeOfStampRefusals)
+    × ((timeOfMessage layoutA partitionsA segmentsA [] ∷ timeOfMessage noLayout partitionsA segmentsA (message 1 (bytes "5")) ∷ timeOfMessage layoutA noPartitions segmentsA (message 1 (bytes "5"))
+    ∷ timeOfMessage layoutA partitionsA segmentsA (message 1 (bytes "x")) ∷ timeOfMessage layoutA partitionsA segmentsA (message 1 (bytes " ")) ∷ timeOfMessage layoutA partitionsA segmentsA (message 5 (bytes "1.2.3"))
+    ∷ timeOfMessage layoutB partitionsA segmentsA (message 5 (bytes "1:1:0")) ∷ timeOfMessage layoutA partitionsA segmentsA (message 16 (bytes "1000000000001001"))
+    ∷ timeOfMessage layoutA partitionsA segmentsA (message 3 (bytes "3/1")) ∷ timeOfMessage layoutA partitionsA segmentsA (message 6 (bytes "1/50.1"))
+    ∷ timeOfMessage layoutA partitionsA noSegments (message 5 (bytes "1/0.0")) ∷ timeOfMessage layoutA partitionsA lateSegments (message 5 (bytes "1/0.0")) ∷ [])
+    ≡ map refuse timeOfMessageRefusals)
     × ((stepsBackIn noLayout partitionsA segmentsA ∷ stepsBackIn layoutA noPartitions segmentsA ∷ stepsBackIn layoutA partitionsA noSegments ∷ [])
     ≡ map refuse stepsBackRefusals)
-unfolding computing bytes layoutA partitionsA segmentsA layoutB textRefusals stampRefusals messageRefusals printCountRefusals printStampRefusals timeOfRefusals countAtRefusals timeOfStampRefusals stepsBackRefusals noLayout noPartitions noSegments lateSegments tooLong message
-refusals-given = (refl, refl, refl, refl, refl, refl, refl, refl, refl)
+unfolding computing bytes layoutA partitionsA segmentsA layoutB textRefusals stampRefusals messageRefusals printCountRefusals printStampRefusals timeOfRefusals countAtRefusals timeOfStampRefusals timeOfMessageRefusals stepsBackRefusals noLayout noPartitions noSegments lateSegments tooLong message
+refusals-given = (refl, refl, refl, refl, refl, refl, refl, refl, refl, refl)

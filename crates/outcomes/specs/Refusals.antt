@@ -18,7 +18,7 @@ use Rattle.rules.specs.Message.{readMessage}
 use Rattle.rules.specs.Print.{printCount, printStamp}
 use Rattle.rules.specs.Time.{timeOf, countAt, stepsBackIn}
 use Rattle.rules.specs.Doubles.{forwardDouble, backDouble}
-use Rattle.rules.specs.StampTime.{timeOfStamp}
+use Rattle.rules.specs.StampTime.{timeOfStamp, timeOfMessage}
 
 unfoldable pub textRefusals : List ℕ
 textRefusals = 1 ∷ 4 ∷ 5 ∷ 6 ∷ 7 ∷ 8 ∷ 9 ∷ []
@@ -48,6 +48,10 @@ countAtRefusals = 1 ∷ 2 ∷ 3 ∷ 13 ∷ 14 ∷ []
 unfoldable pub timeOfStampRefusals : List ℕ
 timeOfStampRefusals = 1 ∷ 2 ∷ 4 ∷ 5 ∷ 6 ∷ 7 ∷ 8 ∷ 9 ∷ 10 ∷ 11 ∷ 3 ∷ 13 ∷ []
 
+-- nor 4
+unfoldable pub timeOfMessageRefusals : List ℕ
+timeOfMessageRefusals = 17 ∷ 1 ∷ 2 ∷ 5 ∷ 6 ∷ 7 ∷ 8 ∷ 9 ∷ 10 ∷ 11 ∷ 3 ∷ 13 ∷ []
+
 unfoldable pub stepsBackRefusals : List ℕ
 stepsBackRefusals = 1 ∷ 2 ∷ 3 ∷ []
 
@@ -68,6 +72,7 @@ pub record Refusals : Type 0 where
   pub time-of : (l : Layout) (p : Partitions) (g : Segments) (e : ℕ) → OnlyRefuses timeOfRefusals (timeOf l p g e)
   pub count-at : (l : Layout) (p : Partitions) (g : Segments) (t : ℤ) → OnlyRefuses countAtRefusals (countAt l p g t)
   pub time-of-stamp : (l : Layout) (p : Partitions) (g : Segments) (s : List ℕ) → OnlyRefuses timeOfStampRefusals (timeOfStamp l p g s)
+  pub time-of-message : (l : Layout) (p : Partitions) (g : Segments) (m : List ℕ) → OnlyRefuses timeOfMessageRefusals (timeOfMessage l p g m)
   pub steps-back : (l : Layout) (p : Partitions) (g : Segments) → OnlyRefuses stepsBackRefusals (stepsBackIn l p g)
   pub forward : (s : DoubleSegment) (msf c : ℕ) → OnlyRefuses doubleRefusals (forwardDouble s msf c)
   pub back : (s : DoubleSegment) (msf : ℕ) (t : Float) → OnlyRefuses doubleRefusals (backDouble s msf t)

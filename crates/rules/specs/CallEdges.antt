@@ -12,7 +12,7 @@ use Rattle.rules.specs.Text.{readText, fieldsOf}
 use Rattle.rules.specs.Message.{readMessage}
 use Rattle.rules.specs.Print.{printCount, bufferAfter}
 use Rattle.rules.specs.Time.{countAt}
-use Rattle.rules.specs.StampTime.{timeOfStamp}
+use Rattle.rules.specs.StampTime.{timeOfStamp, timeOfMessage}
 use Rattle.rules.specs.Computing.{computing}
 use Rattle.rules.specs.Examples.{bytes, layoutA, partitionsA, segmentsA}
 
@@ -95,7 +95,10 @@ time-edges = refl
 pub stamp-time-edges :
     (timeOfStamp layoutA partitionsA segmentsA (bytes "1/0.1") ∷ timeOfStamp layoutA partitionsA segmentsA (bytes "50.1") ∷ timeOfStamp layoutA partitionsA segmentsA (bytes "1/50.1")
     ∷ timeOfStamp layoutA partitionsA (segments [] [] []) (bytes "1/50.1") ∷ timeOfStamp layoutA partitionsA (segments [] [] []) (bytes "1/0.1")
-    ∷ timeOfStamp layoutA partitionsA (segments (1 ∷ []) (pos 0 ∷ []) (10_000 ∷ [])) (bytes "1/0.0") ∷ [])
-    ≡ (answer (timedStamp 1 (negsuc 996)) ∷ answer (timedStamp 801 (pos 1_603)) ∷ refuse 11 ∷ refuse 11 ∷ refuse 3 ∷ refuse 13 ∷ [])
+    ∷ timeOfStamp layoutA partitionsA (segments (1 ∷ []) (pos 0 ∷ []) (10_000 ∷ [])) (bytes "1/0.0")
+    ∷ timeOfMessage layoutA partitionsA segmentsA (7 ∷ 208 ∷ bytes "1/5.3" ++ (0 ∷ 5 ∷ [])) ∷ timeOfMessage layoutA partitionsA (segments [] [] []) (7 ∷ 208 ∷ bytes "1/5.3" ++ (0 ∷ 8 ∷ []))
+    ∷ timeOfMessage layoutA partitionsA (segments [] [] []) (7 ∷ 208 ∷ bytes "1/5.3" ++ (0 ∷ 5 ∷ [])) ∷ [])
+    ≡ (answer (timedStamp 1 (negsuc 996)) ∷ answer (timedStamp 801 (pos 1_603)) ∷ refuse 11 ∷ refuse 11 ∷ refuse 3 ∷ refuse 13
+    ∷ answer (timedStamp 53 (negsuc 866)) ∷ refuse 17 ∷ refuse 3 ∷ [])
 unfolding computing bytes layoutA partitionsA segmentsA
 stamp-time-edges = refl

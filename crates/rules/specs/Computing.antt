@@ -91,7 +91,7 @@ use Rattle.rules.specs.Time.{
   accepted,
   stepsBackIn,
 }
-use Rattle.rules.specs.StampTime.{withTime, timeOfStamp}
+use Rattle.rules.specs.StampTime.{withTime, timeOfStamp, timeOfMessage}
 
 unfoldable pub scan-rules : Type 0
 unfolding allOf allBelow someBelow all product firstBelow lastBelow orElse sumBelow roundUp roundDown later elapsed unless andThen
@@ -114,7 +114,7 @@ unfolding printCount printStamp stampPrint countPrint fieldsPrint fieldPrint fie
 print-rules = Unit {0}
 
 unfoldable pub time-rules : Type 0
-unfolding timeOf timeIn timeOn segmentOf countAt countIn countOn notBeyond segmentAt ticksSince lineCount stoppedAt overtakes stepsBack stepsBackAt stepsBackIn withTime timeOfStamp
+unfolding timeOf timeIn timeOn segmentOf countAt countIn countOn notBeyond segmentAt ticksSince lineCount stoppedAt overtakes stepsBack stepsBackAt stepsBackIn withTime timeOfStamp timeOfMessage
 time-rules = Unit {0}
 
 unfoldable pub computing : Type 0

@@ -10,8 +10,8 @@ pub mod Text
 pub mod Stamp
 pub mod Print
 pub mod Time
-pub mod StampTime
 pub mod Message
+pub mod StampTime
 pub mod Doubles
 pub mod Computing
 pub mod Examples

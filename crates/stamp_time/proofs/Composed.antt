@@ -20,7 +20,7 @@ use Rattle.rules.specs.Segments.{Segments, segmentsOk}
 use Rattle.rules.specs.Facts.{LayoutFacts, SegmentsFacts}
 use Rattle.rules.specs.Stamp.{parseStamp, encode, readStamp}
 use Rattle.rules.specs.Time.{accepted, timeIn, timeOf}
-use Rattle.rules.specs.StampTime.{withTime, timeOfStamp}
+use Rattle.rules.specs.StampTime.{withTime, timeOfStamp, timeOfMessage}
 use Rattle.rules.proofs.Accepted.{segments-facts}
 use Rattle.rules.proofs.Answers.{unless-test}
 use Rattle.layouts.specs.declared.MeasureAnswer.{MeasureAnswer}
@@ -34,6 +34,11 @@ use Rattle.tables.specs.declared.Acceptance.the-variants as Accepts
 use Rattle.tables.specs.Accept.{acceptance, stampsBasis, BasisFacts}
 use Rattle.tables.proofs.Accepted.{stamps-refused, stamps-facts, stamps-accepted}
 use Rattle.tables.proofs.Guards.{then-unless}
+use Rattle.rules.specs.Message.{messageOk, textIn, readMessage}
+use Rattle.message.specs.declared.TextStart.{TextStart}
+use Rattle.message.specs.declared.TextStart.the-variants as Starts
+use Rattle.message.specs.Part.{textStart, startIn}
+use Rattle.message.proofs.Trailer.{start-refused, start-accepted}
 use Rattle.text.proofs.Calls.{stamp-refused, stamp-accepted}
 use Rattle.stamp_time.specs.Count.{timedCount}
 
@@ -98,3 +103,15 @@ module _ (l : Layout) (p : Partitions) (g : Segments) (s : List ℕ) where
 
     pub numbers : (b : Basis) → q ≡ Accepts.Accepted b → BasisFacts (b .unit) (b .total)
     numbers b h = stamps-facts l p m w q f b h .numbers
+
+-- `time_of_message`, after `text_start` answered r
+module _ (l : Layout) (p : Partitions) (g : Segments) (m : List ℕ) (r : TextStart) (e : textStart r ≡ startIn m) where
+  guarded : unless 17 (messageOk m) (timeOfStamp l p g (textIn m)) ≡ timeOfMessage l p g m
+  unfolding timeOfMessage timeOfStamp readMessage
+  guarded = sym (then-unless 17 (messageOk m) (readStamp l p (textIn m)) (λ x. withTime l p g (x .count)))
+
+  pub message-out : (k : Refusal) → r ≡ Starts.Refused k → refused k ≡ timeOfMessage l p g m
+  message-out k h = start-refused m r e k _ h ∙ guarded
+
+  pub message-timed : (i : ℕ) (s : List ℕ) (x : Answer TimedStamp) → r ≡ Starts.At i → s ≡ textIn m → x ≡ timeOfStamp l p g s → x ≡ timeOfMessage l p g m
+  message-timed i s x h t q = start-accepted m r e i h x _ (q ∙ rw t) ∙ guarded

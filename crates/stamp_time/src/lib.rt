@@ -1,12 +1,15 @@
-// A stamp to its encoded count and its time, with one check of each table.
+// A stamp or a message to its encoded count and its time, with one check of each table.
 ghost use mathlib.Core.Path.{_≡_};
 ghost use Rattle.rules.specs.Answer.{stampAnswer};
 ghost use Rattle.rules.specs.Partitions.{partitions};
 ghost use Rattle.rules.specs.Segments.{segments};
-ghost use Rattle.rules.specs.StampTime.{timeOfStamp};
+ghost use Rattle.rules.specs.StampTime.{timeOfStamp, timeOfMessage};
 ghost use Rattle.tables.specs.Accept.{BasisFacts};
 ghost use Rattle.stamp_time.specs.Count.{timedCount};
 use layouts::measure;
+use message::TextStart;
+use message::text_part;
+use message::text_start;
 use rules::Layout;
 use rules::ReadAnswer;
 use rules::StampAnswer;
@@ -51,6 +54,24 @@ pub fn time_of_stamp(
             ReadAnswer::Refused(k) => StampAnswer::Refused(k),
         },
         Acceptance::Refused(k) => StampAnswer::Refused(k),
+    }
+}
+
+// A message likewise; what the message refuses comes first.
+pub fn time_of_message(
+    layout: Layout,
+    starts: &[u64],
+    ends: &[u64],
+    counts: &[u64],
+    times: &[i64],
+    rates: &[u64],
+    message: &[u8],
+) -> StampAnswer
+    ensures { λ r. ⌜ stampAnswer r ≡ timeOfMessage layout (partitions (now (starts .entry)) (now (ends .entry))) (segments (now (counts .entry)) (now (times .entry)) (now (rates .entry))) (now (message .entry)) ⌝ }
+{
+    match text_start(message) {
+        TextStart::At(start) => time_of_stamp(layout, starts, ends, counts, times, rates, text_part(message, start)),
+        TextStart::Refused(k) => StampAnswer::Refused(k),
     }
 }
 

@@ -1,0 +1,18 @@
+use Rattle.message.proofs.Trailer.{too-short, none-back, too-long, too-far, begins}
+use borrow.Author.Needs.{needs}
+use Rattle.message.proofs.text_start.Statement.{statement}
+use Rattle.message.proofs.text_start.Tie as tie
+
+pub text-start-spec : {M : Type 1} → statement M
+text-start-spec =
+    tie.close
+    (tie.spec
+    (λ c. search (too-short, needs))
+    (λ c. search needs)
+    (λ c. search needs)
+    (λ c. search needs)
+    (λ c κs. search needs)
+    (λ c. search (none-back, needs))
+    (λ c. search (too-long, needs))
+    (λ c. search (too-far, needs))
+    (λ c. search (begins, needs)))
