@@ -8,9 +8,9 @@ const MOST_ROWS: usize = 10000;
 
 fn main() {
     let timed = 1 < os::arg_count();
-    let mut texts = [0u8; 3584];
-    bench_stamps::fill(&mut texts);
-    bench_stamps::bench(timed, &texts);
+    let mut messages = [0u8; 4096];
+    bench_stamps::fill(&mut messages);
+    bench_stamps::bench(timed, &messages);
     let mut counts = [0u64; MOST_ROWS];
     let mut times = [0i64; MOST_ROWS];
     let mut rates = [0u64; MOST_ROWS];
@@ -34,9 +34,9 @@ fn main() {
         b"time-of-100",
         b"count-at-100",
     );
-    rows::bench_stamps(
+    rows::bench_messages(
         timed,
-        &texts,
+        &messages,
         &counts[0..100],
         &times[0..100],
         &rates[0..100],

@@ -1,7 +1,7 @@
 //! The benchmark's questions, asked of the reference. Without a word it asks few of each and prints their checksums; with the
 //! word `time` it asks many and prints nanoseconds a call behind each checksum. The proved program `bench` does the same.
 
-use reference::{count_at, print_stamp, read_stamp, steps_back, time_of, Layout, Partitions, Segments};
+use reference::{count_at, print_stamp, read_message, read_stamp, steps_back, time_of, Layout, Partitions, Segments};
 
 extern "C" {
     /// C's `clock`: microseconds of processor time. The proved program reads the same.
@@ -53,8 +53,8 @@ fn rows(rows: u64) -> Rows {
     }
 }
 
-/// `1/ddddd:dd:ddd`, 14 bytes.
-fn texts() -> Vec<u8> {
+/// `1/ddddd:dd:ddd`, 14 bytes, and a trailer that says so.
+fn messages() -> Vec<u8> {
     let mut all = Vec::new();
     let mut x = 1;
     for _ in 0..TEXTS {
@@ -62,6 +62,7 @@ fn texts() -> Vec<u8> {
         let count = scaled(x, LAST);
         let text = format!("1/{:05}:{:02}:{:03}", count / 48_000, count / 800 % 60, count % 800 + 1);
         all.extend_from_slice(text.as_bytes());
+        all.extend_from_slice(&[0, 14]);
     }
     all
 }
@@ -88,10 +89,10 @@ fn main() {
     let partitions = Partitions { start: &[0, 0], end: &[LAST, LAST] };
     let one = Partitions { start: &[0], end: &[LAST] };
 
-    let texts = texts();
+    let messages = messages();
     line("read-stamp", many(5_000_000, 1_000), timed, |x| {
-        let at = (x as usize % TEXTS) * 14;
-        read_stamp(unknown(&LAYOUT), partitions, &texts[at..at + 14]).unwrap()
+        let at = (x as usize % TEXTS) * 16;
+        read_stamp(unknown(&LAYOUT), partitions, &messages[at..at + 14]).unwrap()
     });
     line("print-stamp", many(5_000_000, 1_000), timed, |x| {
         let mut buffer = [0; 32];
@@ -114,8 +115,14 @@ fn main() {
         });
         if n == 100 {
             line("stamp-time-100", many(times, 100), timed, |x| {
-                let at = (x as usize % TEXTS) * 14;
-                let count = read_stamp(unknown(&LAYOUT), one, &texts[at..at + 14]).unwrap();
+                let at = (x as usize % TEXTS) * 16;
+                let count = read_stamp(unknown(&LAYOUT), one, &messages[at..at + 14]).unwrap();
+                let time = time_of(unknown(&LAYOUT), one, segments, count).unwrap();
+                count ^ (time as u64) ^ (1 << 63)
+            });
+            line("message-time-100", many(times, 100), timed, |x| {
+                let at = (x as usize % TEXTS) * 16;
+                let count = read_message(unknown(&LAYOUT), one, &messages[at..at + 16]).unwrap();
                 let time = time_of(unknown(&LAYOUT), one, segments, count).unwrap();
                 count ^ (time as u64) ^ (1 << 63)
             });

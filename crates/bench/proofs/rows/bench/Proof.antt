@@ -1,4 +1,4 @@
-use Rattle.bench.proofs.Laws.{div-small}
+use Rattle.bench.proofs.Counts.{div-small}
 use borrow.Author.Needs.{needs}
 use Rattle.bench.proofs.rows.bench.Statement.{statement}
 use Rattle.bench.proofs.rows.bench.Tie as tie
