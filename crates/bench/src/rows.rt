@@ -173,14 +173,14 @@ fn times_of_stamps(
         x = next(x);
         sum = mixed(
             sum,
-            stamp_time(messages, (x % 256) as usize * MESSAGE, counts, times, rates),
+            stamp_mark(messages, (x % 256) as usize * MESSAGE, counts, times, rates),
         );
         k += 1;
     }
     sum
 }
 
-fn stamp_time(messages: &[u8], at: usize, counts: &[u64], times: &[i64], rates: &[u64]) -> u64
+fn stamp_mark(messages: &[u8], at: usize, counts: &[u64], times: &[i64], rates: &[u64]) -> u64
     requires { ⌜ at < 4096 ⌝ }
 {
     let end = at + TEXT;
@@ -212,14 +212,14 @@ fn times_of_messages(
         x = next(x);
         sum = mixed(
             sum,
-            message_time(messages, (x % 256) as usize * MESSAGE, counts, times, rates),
+            message_mark(messages, (x % 256) as usize * MESSAGE, counts, times, rates),
         );
         k += 1;
     }
     sum
 }
 
-fn message_time(messages: &[u8], at: usize, counts: &[u64], times: &[i64], rates: &[u64]) -> u64
+fn message_mark(messages: &[u8], at: usize, counts: &[u64], times: &[i64], rates: &[u64]) -> u64
     requires { ⌜ at < 4096 ⌝ }
 {
     let end = at + MESSAGE;

@@ -1,6 +1,6 @@
 // Clock text in one pass over its bytes: digits and marks to fields, fields to the count.
 ghost use mathlib.Core.Path.{_≡_};
-ghost use Prim.Native.Nat.{_+_, _*_, _-_, _≤_, _<_, min};
+ghost use Prim.Native.Nat.{_+_, _*_, _≤_, _<_, min};
 ghost use lib.ListN.{length, drop};
 ghost use Rattle.base.specs.Scans.{product};
 ghost use Rattle.rules.specs.Text.{isDigit, isMark};
@@ -204,19 +204,9 @@ fn ticks_in(pass: Pass, offset: u64) -> u64
     ensures { λ r. ⌜ r ≡ ticksIn pass offset ⌝ }
 {
     if pass.present {
-        return less(pass.value, offset);
+        return wide::less(pass.value, offset);
     }
     0
-}
-
-// `a - b`, or 0 where b is above it.
-fn less(a: u64, b: u64) -> u64
-    ensures { λ r. ⌜ r ≡ a - b ⌝ }
-{
-    if a < b {
-        return 0;
-    }
-    a - b
 }
 
 // `sum` times the moduli from the field `from` on.

@@ -1,10 +1,9 @@
 -- The unit of an accepted layout may divide, and what a caller has of `measure`.
-use Prim.Native.Nat.{ℕ, _≤_}
+use Prim.Native.Nat.{ℕ}
 use mathlib.Core.Path.{_≡_, sym}
 use native.Mathlib.Omega.{arith}
 use lib.Dec.{leb}
 use lib.ListN.{drop}
-use Rattle.base.specs.Scans.{product}
 use Rattle.base.proofs.Lists.{all-drop-one, product-pos}
 use Rattle.rules.specs.declared.Layout.{Layout}
 use Rattle.rules.specs.declared.Refusal.{Refusal}

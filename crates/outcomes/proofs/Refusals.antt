@@ -24,7 +24,8 @@ use Rattle.rules.specs.Text.{Field, readText, parseText, bytesCount, fieldsCoun
 use Rattle.rules.specs.Stamp.{Parsed, named, unnamed, readStamp, parseStamp, parsedAt, encode, encodeNamed, encodeFound, encodeFirst}
 use Rattle.rules.specs.Message.{readMessage, messageOk, textLength, textIn}
 use Rattle.rules.specs.Print.{printCount, printStamp, fitting}
-use Rattle.rules.specs.Time.{timeOf, timeIn, timeOn, countAt, countIn, countOn, notBeyond, stepsBackIn, accepted, segmentOf, segmentAt}
+use Rattle.rules.specs.Accepted.{accepted}
+use Rattle.rules.specs.Time.{timeOf, timeIn, timeOn, countAt, countIn, countOn, notBeyond, stepsBackIn, segmentOf, segmentAt}
 use Rattle.rules.specs.Doubles.{finiteAnswer, forwardDouble, backDouble}
 use Rattle.rules.specs.StampTime.{withTime, timeOfStamp, timeOfMessage}
 use Rattle.rules.proofs.Answers.{not-answer, unless-rest}

@@ -132,7 +132,7 @@ readings =
     ∷ under layoutB "20538:39:" (readsAs 985_855_200)
     ∷ under layoutB "20538:39:0" (refuse 8)
     ∷ under layoutB "20538:39:1" (readsAs 985_855_200)
-    -- a partition is refuse after all that concerns the text
+    -- a partition is refused after all that concerns the text
     ∷ stampA "0/" (refuse 6)
     ∷ stampA "0/x" (refuse 5)
     ∷ stampA "3/9999999999999999" (refuse 9)

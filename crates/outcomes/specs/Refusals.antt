@@ -1,4 +1,5 @@
--- The exact set of refusals that each call can give. proofs/Refusals.antt shows that it gives no other, Given.antt that it gives each.
+-- The exact set of refusals that each call can give. proofs/Refusals.antt shows that it gives no other, Given.antt that it gives each; for the
+-- double form, whose one refusal is 15, cases of rules' DoubleExamples give it.
 use Prim.Native.Nat.{ℕ}
 use mathlib.Core.Path.{_≡_}
 use mathlib.Core.Bool.{true}

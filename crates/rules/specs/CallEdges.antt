@@ -1,4 +1,4 @@
--- The limits of the calls themselves, each at its edge and one beyond, as one table with one statement.
+-- The limits of the calls themselves, each at its edge and one beyond: a table with one statement for each kind of call.
 use Prim.Native.Nat.{ℕ, _-_, _*_, _^_}
 use Prim.Native.String.{String}
 use mathlib.Core.Path.{_≡_, refl}
@@ -80,18 +80,19 @@ pub print-edges :
 unfolding computing countBuffer bytes tens layoutA
 print-edges = refl
 
--- one segment from the earliest time on; T at ±4×10^18 and one beyond
+-- one segment from the earliest time on; T at ±4×10^18 and one beyond; a line that just reaches the next segment's count, and the total
 unfoldable pub early : Segments
 early = segments (0 ∷ []) (negsuc (4 * 10 ^ 18 - 1) ∷ []) (10_000 ∷ [])
 
 pub time-edges :
     (countAt layoutA partitionsA early (negsuc (4 * 10 ^ 18)) ∷ countAt layoutA partitionsA early (negsuc (4 * 10 ^ 18 - 1))
-    ∷ countAt layoutA partitionsA segmentsA (negsuc (4 * 10 ^ 18 - 1)) ∷ countAt layoutA partitionsA early (pos (4 * 10 ^ 18)) ∷ [])
-    ≡ (refuse 14 ∷ answer (countAtTime 0) ∷ refuse 13 ∷ refuse 14 ∷ [])
+    ∷ countAt layoutA partitionsA segmentsA (negsuc (4 * 10 ^ 18 - 1)) ∷ countAt layoutA partitionsA early (pos (4 * 10 ^ 18))
+    ∷ countAt layoutA partitionsA segmentsA (pos 500) ∷ countAt layoutA partitionsA segmentsA (pos 2_802) ∷ [])
+    ≡ (refuse 14 ∷ answer (countAtTime 0) ∷ refuse 13 ∷ refuse 14 ∷ answer (countAtTime 599) ∷ answer (countAtTime 1_200) ∷ [])
 unfolding computing layoutA partitionsA segmentsA early
 time-edges = refl
 
--- a stamp with its time; what reading refuses comes before a bad segment table, and that before 12 and 13
+-- a stamp with its time; what reading refuses comes before a bad segment table, and that before 13
 pub stamp-time-edges :
     (timeOfStamp layoutA partitionsA segmentsA (bytes "1/0.1") ∷ timeOfStamp layoutA partitionsA segmentsA (bytes "50.1") ∷ timeOfStamp layoutA partitionsA segmentsA (bytes "1/50.1")
     ∷ timeOfStamp layoutA partitionsA (segments [] [] []) (bytes "1/50.1") ∷ timeOfStamp layoutA partitionsA (segments [] [] []) (bytes "1/0.1")

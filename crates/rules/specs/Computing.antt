@@ -1,4 +1,4 @@
--- One name for every definition of the calls: `unfolding computing` lets a table of cases compute.
+-- One name for the definitions of every call but the double form: `unfolding computing` lets a table of cases compute.
 use Rattle.base.specs.Scans.{allOf, allBelow, someBelow, all, product, firstBelow, lastBelow, orElse, sumBelow}
 use Rattle.base.specs.Rounding.{roundUp, roundDown}
 use Rattle.base.specs.Signed.{later, elapsed}
@@ -19,6 +19,7 @@ use Rattle.rules.specs.Segments.{
   stepsBack,
   stepsBackAt,
 }
+use Rattle.rules.specs.Accepted.{accepted}
 use Rattle.rules.specs.Text.{
   readText,
   parseText,
@@ -88,7 +89,6 @@ use Rattle.rules.specs.Time.{
   ticksSince,
   lineCount,
   stoppedAt,
-  accepted,
   stepsBackIn,
 }
 use Rattle.rules.specs.StampTime.{withTime, timeOfStamp, timeOfMessage}

@@ -8,6 +8,7 @@ use lib.IntN.{ℤ, pos, negsuc}
 use lib.ListN.{replicate, length, take}
 use Rattle.base.specs.Scans.{sumBelow}
 use Rattle.rules.specs.declared.Layout.{Layout}
+use Rattle.rules.specs.Limits.{mostFields}
 use Rattle.rules.specs.Answer.{Answer, answer, refuse}
 use Rattle.rules.specs.Partitions.{Partitions, partitions, totalOf, lengthsBefore}
 use Rattle.rules.specs.Segments.{Segments, segments}
@@ -17,7 +18,7 @@ use Rattle.rules.specs.Examples.{layoutA, partitionsA, segmentsA}
 
 -- ten slots, the given numbers first and 0 after them
 slots : List ℕ → List ℕ
-slots xs = take 10 (xs ++ replicate 10 0)
+slots xs = take mostFields (xs ++ replicate mostFields 0)
 
 layout : ℕ → List ℕ → List ℕ → ℕ → Layout
 layout n ms os d = record { n = n; moduli = slots ms; offsets = slots os; delimiter = d }

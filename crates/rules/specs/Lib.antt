@@ -5,6 +5,7 @@ pub mod Answer
 pub mod Layout
 pub mod Partitions
 pub mod Segments
+pub mod Accepted
 pub mod Facts
 pub mod Text
 pub mod Stamp

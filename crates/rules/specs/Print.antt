@@ -8,7 +8,8 @@ use lib.ListN.{length, getD, drop}
 use Rattle.base.specs.Scans.{product, firstBelow}
 use Rattle.rules.specs.declared.Layout.{Layout}
 use Rattle.rules.specs.Layout.{layoutOk, moduliOf, offsetsOf, productOf}
-use Rattle.rules.specs.Partitions.{Partitions, partitionsIn, startOf, lengthsBefore, totalOf, partitionsOk}
+use Rattle.rules.specs.Partitions.{Partitions, partitionsIn, startOf, lengthsBefore, totalOf}
+use Rattle.rules.specs.Accepted.{acceptedStamps}
 use Rattle.rules.specs.Answer.{Answer, answer, refused, unless}
 
 -- how many decimal digits x has, 0 having one; at most `most` and one more are counted
@@ -78,8 +79,7 @@ printCount l c room = unless 1 (layoutOk l) (unless 9 (ltb c (productOf l)) (fit
 
 -- "12: encoded count above the total". Never 9: the count of an encoded count up to the total is below P (`StampCountBelowP` of roundtrip).
 unfoldable pub printStamp : Layout → Partitions → ℕ → ℕ → Answer (List ℕ)
-printStamp l p e room =
-    unless 1 (layoutOk l) (unless 2 (partitionsOk (productOf l) p) (unless 12 (leb e (totalOf p)) (fitting room (stampPrint l p e))))
+printStamp l p e room = acceptedStamps l p (unless 12 (leb e (totalOf p)) (fitting room (stampPrint l p e)))
 
 -- "the answer is its length"
 unfoldable pub lengthPrinted : Answer (List ℕ) → Answer ℕ

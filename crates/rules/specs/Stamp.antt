@@ -9,8 +9,9 @@ use Rattle.base.specs.Scans.{all, firstBelow}
 use Rattle.rules.specs.Limits.{longestText}
 use Rattle.rules.specs.declared.Layout.{Layout}
 use Rattle.rules.specs.declared.Reading.{Reading}
-use Rattle.rules.specs.Layout.{layoutOk, moduliOf, offsetsOf, productOf}
-use Rattle.rules.specs.Partitions.{Partitions, partitionsIn, startOf, endOf, lengthsBefore, partitionsOk}
+use Rattle.rules.specs.Layout.{moduliOf, offsetsOf}
+use Rattle.rules.specs.Partitions.{Partitions, partitionsIn, startOf, endOf, lengthsBefore}
+use Rattle.rules.specs.Accepted.{acceptedStamps}
 use Rattle.rules.specs.Answer.{Answer, answer, refuse, unless, andThen, reading}
 use Rattle.rules.specs.Text.{Field, isAllowed, isPresent, valueOf, fieldsOf, bytesCount}
 
@@ -82,7 +83,4 @@ encode p (unnamed r) = andThen (encodeFirst p (r .count)) (λ e. answer (reading
 
 -- The call: a stamp, with or without a partition, to its encoded count. 1 and 2, then 4, 5 and the rest.
 unfoldable pub readStamp : Layout → Partitions → List ℕ → Answer Reading
-readStamp l p s =
-    unless 1 (layoutOk l)
-    (unless 2 (partitionsOk (productOf l) p)
-    (andThen (parseStamp (moduliOf l) (offsetsOf l) s) (encode p)))
+readStamp l p s = acceptedStamps l p (andThen (parseStamp (moduliOf l) (offsetsOf l) s) (encode p))

@@ -15,15 +15,11 @@ use Rattle.rules.specs.declared.Layout.{Layout}
 use Rattle.rules.specs.declared.Segment.{Segment}
 use Rattle.rules.specs.declared.TimeOfCount.{TimeOfCount}
 use Rattle.rules.specs.declared.CountAtTime.{CountAtTime}
-use Rattle.rules.specs.Layout.{layoutOk, productOf, unitOf}
-use Rattle.rules.specs.Partitions.{Partitions, totalOf, partitionsOk}
-use Rattle.rules.specs.Segments.{Segments, rowOf, hasNext, lineAt, segmentsOk, stepsBack}
+use Rattle.rules.specs.Layout.{unitOf}
+use Rattle.rules.specs.Partitions.{Partitions, totalOf}
+use Rattle.rules.specs.Segments.{Segments, rowOf, hasNext, lineAt, stepsBack}
+use Rattle.rules.specs.Accepted.{accepted}
 use Rattle.rules.specs.Answer.{Answer, answer, refuse, unless, timeOfCount, countAtTime}
-
--- "1, 2, 3": accepted where none of them applies, and then what follows
-unfoldable pub accepted : {A : Type 0} → Layout → Partitions → Segments → Answer A → Answer A
-accepted l p g a =
-    unless 1 (layoutOk l) (unless 2 (partitionsOk (productOf l) p) (unless 3 (segmentsOk (unitOf l) (totalOf p) g) a))
 
 -- The call: does the table step back?
 unfoldable pub stepsBackIn : Layout → Partitions → Segments → Answer Bool

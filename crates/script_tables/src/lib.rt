@@ -1,7 +1,7 @@
 // The tables: the layout as the numbers of its line, and five lists, each with how many entries it holds.
 ghost use Prim.Native.Nat.{_*_, _+_, _<_, _≤_};
 ghost use mathlib.Core.Path.{_≡_};
-ghost use lib.ListN.{length, getD, take, drop};
+ghost use lib.ListN.{getD, take, drop};
 ghost use Rattle.script_tables.specs.Changes.{Keeps};
 ghost use Rattle.script_tables.specs.Sizes.{Fit, mostEntries};
 use rules::Layout;

@@ -6,7 +6,7 @@ ghost use Rattle.segment_line.specs.Line.{ToTime, ToTicks};
 use quotient::Quotient;
 use rules::Segment;
 
-// The time that the line reaches at the count `e`, rounded up.
+// The time that the line reaches at the count `e`, rounded up. Neither quotient here is ever too large.
 pub fn time_on(unit: u64, segment: Segment, e: u64) -> i64
     requires { ⌜ ToTime unit segment e ⌝ }
     ensures { λ r. ⌜ r ≡ lineAt unit segment e ⌝ }

@@ -10,7 +10,7 @@ use native.Mathlib.Numerals.{add-one}
 use borrow.Author.Tests.{eq-eqb, le-leb, not-true, not-false}
 use Rattle.base.specs.Scans.{allOf, allBelow}
 use Rattle.base.proofs.Scans.{all-start, all-next, all-at}
-use Rattle.base.proofs.Tests.{by-test, not-both, and-both, all-of-head, all-of-tail}
+use Rattle.base.proofs.Tests.{by-test, not-both, all-of-head, all-of-tail}
 use Rattle.rules.specs.Answer.{answer, refuse, unless}
 use Rattle.rules.specs.Limits.{mostSegments}
 use Rattle.rules.specs.declared.Segment.{Segment}

@@ -3,7 +3,6 @@ use Prim.Native.Nat.{ℕ, _≤_, _<_}
 use mathlib.Core.Path.{_≡_, refl, sym, _∙_}
 use mathlib.Core.Bool.{Bool, true, false, not, _&&_}
 use mathlib.Core.Option.{Option, some}
-use lib.IntN.{ℤ}
 use lib.Dec.{leb}
 use lib.Signed.{leZ, ltZ}
 use mir.Syntax.{w64}
@@ -12,7 +11,7 @@ use mir.Facts.{toZ-ofZ}
 use borrow.Author.Tests.{le-leb, lt-leb, lt-ltb, le-ltb, not-true, not-false}
 use Rattle.base.specs.Scans.{allOf}
 use Rattle.base.proofs.Signed.{before-not-after}
-use Rattle.base.proofs.Tests.{and-out-second, all-of-head, all-of-tail}
+use Rattle.base.proofs.Tests.{all-of-head, all-of-tail}
 use Rattle.rules.specs.Limits.{earliestTime, latestTime, largestRate}
 use Rattle.rules.specs.declared.Segment.{Segment}
 use Rattle.rules.specs.Segments.{rowOk, follows, lineOk, segmentOk}

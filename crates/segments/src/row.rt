@@ -3,7 +3,7 @@
 ghost use mathlib.Core.Path.{_≡_};
 ghost use mathlib.Core.Bool.{true};
 ghost use mathlib.Core.Option.{some};
-ghost use Prim.Native.Nat.{_≤_, _-_};
+ghost use Prim.Native.Nat.{_≤_};
 ghost use lib.Signed.{leZ};
 ghost use Rattle.rules.specs.Limits.{latestTime};
 ghost use Rattle.rules.specs.Segments.{segments, rowOf, rowOk, follows as followsRow, lineOk, segmentOk, overtakes as overtakesNext};
@@ -89,7 +89,7 @@ fn line_ok(unit: u64, row: Segment, end: u64) -> bool
 {
     product_at_most(
         row.rate,
-        less(end, row.count),
+        wide::less(end, row.count),
         signed::elapsed(row.time, LATEST_TIME),
         unit,
     )
@@ -103,18 +103,8 @@ pub fn overtakes(unit: u64, row: Segment, next: Segment) -> bool
 {
     !product_at_most(
         row.rate,
-        less(next.count, row.count),
+        wide::less(next.count, row.count),
         signed::elapsed(row.time, next.time),
         unit,
     )
-}
-
-// `a - b`, or 0 where b is above it.
-fn less(a: u64, b: u64) -> u64
-    ensures { λ r. ⌜ r ≡ a - b ⌝ }
-{
-    if a < b {
-        return 0;
-    }
-    a - b
 }

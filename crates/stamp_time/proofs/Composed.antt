@@ -1,9 +1,7 @@
 -- The two definitions one after the other, by the ways out of the code.
-use Prim.Native.Nat.{ℕ, _≤_}
+use Prim.Native.Nat.{ℕ}
 use mathlib.Core.Path.{_≡_, refl, sym, _∙_}
 use mathlib.Core.List.{List}
-use lib.IntN.{ℤ}
-use Rattle.base.proofs.Tests.{by-test}
 use Rattle.rules.specs.declared.Layout.{Layout}
 use Rattle.rules.specs.declared.Refusal.{Refusal}
 use Rattle.rules.specs.declared.Reading.{Reading}
@@ -14,12 +12,13 @@ use Rattle.rules.specs.declared.TimeAnswer.{TimeAnswer}
 use Rattle.rules.specs.declared.TimeAnswer.the-variants as Times
 use Rattle.rules.specs.declared.TimedStamp.{TimedStamp}
 use Rattle.rules.specs.Answer.{Answer, answer, refused, unless, andThen, readAnswer, timeAnswer, timedStamp}
-use Rattle.rules.specs.Layout.{moduliOf, offsetsOf, productOf, unitOf}
+use Rattle.rules.specs.Layout.{moduliOf, offsetsOf, unitOf}
 use Rattle.rules.specs.Partitions.{Partitions, totalOf}
 use Rattle.rules.specs.Segments.{Segments, segmentsOk}
-use Rattle.rules.specs.Facts.{LayoutFacts, SegmentsFacts}
+use Rattle.rules.specs.Facts.{SegmentsFacts}
 use Rattle.rules.specs.Stamp.{parseStamp, encode, readStamp}
-use Rattle.rules.specs.Time.{accepted, timeIn, timeOf}
+use Rattle.rules.specs.Accepted.{accepted}
+use Rattle.rules.specs.Time.{timeIn, timeOf}
 use Rattle.rules.specs.StampTime.{withTime, timeOfStamp, timeOfMessage}
 use Rattle.rules.proofs.Accepted.{segments-facts}
 use Rattle.rules.proofs.Answers.{unless-test}
@@ -32,7 +31,7 @@ use Rattle.tables.specs.declared.Basis.{Basis}
 use Rattle.tables.specs.declared.Acceptance.{Acceptance}
 use Rattle.tables.specs.declared.Acceptance.the-variants as Accepts
 use Rattle.tables.specs.Accept.{acceptance, stampsBasis, BasisFacts}
-use Rattle.tables.proofs.Accepted.{stamps-refused, stamps-facts, stamps-accepted}
+use Rattle.tables.proofs.Accepted.{stamps-facts, stamps-accepted}
 use Rattle.tables.proofs.Guards.{then-unless}
 use Rattle.rules.specs.Message.{messageOk, textIn, readMessage}
 use Rattle.message.specs.declared.TextStart.{TextStart}

@@ -1,15 +1,14 @@
 -- What a caller has of accepted tables, by the case of the answer: `layout-..` of the layout, `stamps-..` of layout and partitions,
 -- `table-..` of all three.
-use Prim.Native.Nat.{ℕ}
-use mathlib.Core.Path.{_≡_, refl, sym, _∙_, ap}
-use mathlib.Core.Bool.{Bool, true, false}
+use mathlib.Core.Path.{_≡_, sym, _∙_, ap}
+use mathlib.Core.Bool.{true}
 use Rattle.rules.specs.declared.Layout.{Layout}
 use Rattle.rules.specs.declared.Refusal.{Refusal}
 use Rattle.rules.specs.Answer.{Answer, answer, refused, unless, andThen}
 use Rattle.rules.specs.Layout.{layoutOk, productOf, unitOf}
 use Rattle.rules.specs.Partitions.{Partitions, partitionsOk, totalOf}
 use Rattle.rules.specs.Segments.{Segments, segmentsOk}
-use Rattle.rules.specs.Time.{accepted}
+use Rattle.rules.specs.Accepted.{accepted}
 use Rattle.rules.proofs.Accepted.{layout-facts, partitions-facts, segments-facts}
 use Rattle.rules.proofs.Answers.{not-answer, unless-test, unless-rest}
 use Rattle.rules.specs.Facts.{LayoutFacts}

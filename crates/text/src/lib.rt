@@ -62,7 +62,7 @@ pub fn read_stamp(layout: Layout, starts: &[u64], ends: &[u64], text: &[u8]) -> 
     }
 }
 
-// A stamp under such a layout and partitions that are accepted.
+// A stamp under a layout whose fields are the first `n` slots, and partitions that are accepted.
 pub fn stamp_in<'a>(
     moduli: &'a [u64],
     offsets: &'a [u64],

@@ -1,11 +1,10 @@
 -- The ways out of the two conversions within accepted segments.
 use Prim.Native.Nat.{ℕ, _+_, _-_, _^_, _≤_, _<_}
-use mathlib.Core.Path.{_≡_, refl, sym, _∙_}
+use mathlib.Core.Path.{_≡_, sym, _∙_}
 use mathlib.Core.Bool.{Bool, true, false, not, _&&_}
 use mathlib.Core.List.{List}
-use mathlib.Core.Option.{none, some}
+use mathlib.Core.Option.{some}
 use lib.IntN.{ℤ}
-use lib.Dec.{leb}
 use lib.ListN.{length, getD}
 use lib.Signed.{leZ}
 use mir.Syntax.{w64}
@@ -13,11 +12,11 @@ use mir.Val.{Fits, SFits, toZ, ofZ}
 use mir.Facts.{toZ-ofZ}
 use borrow.Author.Tests.{le-leb, lt-leb, lt-ltb, le-ltb, not-true, not-false}
 use native.Mathlib.Omega.{arith}
-use Rattle.base.proofs.Tests.{and-first, and-second}
+use Rattle.base.proofs.Tests.{and-second}
 use Rattle.rules.specs.Limits.{earliestTime, latestTime}
 use Rattle.rules.specs.declared.Segment.{Segment}
 use Rattle.rules.specs.Answer.{Answer, answer, refuse, unless, timeOfCount, countAtTime}
-use Rattle.rules.specs.Segments.{Segments, segments, segmentsIn, rowOf, lineAt}
+use Rattle.rules.specs.Segments.{Segments, segments, rowOf, lineAt}
 use Rattle.rules.specs.Facts.{SegmentsFacts}
 use Rattle.rules.specs.Time.{segmentOf, segmentAt, timeOn, timeIn, ticksSince, lineCount, stoppedAt, notBeyond, countOn, countIn}
 use Rattle.rules.specs.declared.CountAtTime.{CountAtTime}

@@ -21,7 +21,8 @@ use Rattle.rules.specs.Layout.{layoutOk, productOf, unitOf}
 use Rattle.rules.specs.Partitions.{Partitions, totalOf, partitionsOk}
 use Rattle.rules.specs.Segments.{Segments, rowOf, lineAt, segmentsOk}
 use Rattle.rules.specs.Facts.{SegmentsFacts}
-use Rattle.rules.specs.Time.{accepted, segmentOf, segmentAt, timeOn, timeIn, timeOf, notBeyond, countOn, countIn, countAt, ticksSince, lineCount, stoppedAt}
+use Rattle.rules.specs.Accepted.{accepted}
+use Rattle.rules.specs.Time.{segmentOf, segmentAt, timeOn, timeIn, timeOf, notBeyond, countOn, countIn, countAt, ticksSince, lineCount, stoppedAt}
 use Rattle.rules.proofs.Accepted.{layout-facts, segments-facts}
 use Rattle.rules.proofs.Answers.{not-answer, unless-test, unless-rest}
 use Rattle.layouts.specs.Measure.{UnitFacts}

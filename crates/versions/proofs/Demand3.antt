@@ -15,7 +15,8 @@ use Rattle.rules.specs.Layout.{layoutOk, productOf}
 use Rattle.rules.specs.Partitions.{partitionsOk, endOf, totalOf}
 use Rattle.rules.specs.Stamp.{readStamp}
 use Rattle.rules.specs.Print.{fitting, stampPrint, printStamp, lengthPrinted, bufferAfter}
-use Rattle.rules.specs.Time.{accepted, timeOf, countAt}
+use Rattle.rules.specs.Accepted.{accepted}
+use Rattle.rules.specs.Time.{timeOf, countAt}
 use Rattle.versions.specs.Versions.{Table, Accepted, lastIn, Hypothesis, Says, Agree, olderRefusesStamp, olderRefusesCount, olderRefusesTime}
 use Rattle.versions.specs.Versions.{readBy, printBy, timeBy, countBy, PrintedAnswer, shown, printed, Exception, Apart, olderPrint, newerPrint, NeverMisleads}
 use Rattle.versions.proofs.Agreement.{agree-same, agree-refused, agree-then}

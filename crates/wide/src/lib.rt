@@ -1,6 +1,6 @@
-// Exact arithmetic on numbers of two 64-bit words: products of two words, and what is asked of them.
+// Exact arithmetic where a word may not do: products of two words and what is asked of them, and a difference that stops at 0.
 ghost use mathlib.Core.Path.{_≡_};
-ghost use Prim.Native.Nat.{_+_, _*_, _/_, _%_, _^_, min};
+ghost use Prim.Native.Nat.{_+_, _-_, _*_, _/_, _%_, _^_, min};
 ghost use lib.Dec.{leb};
 ghost use Rattle.wide.specs.Wide.{value};
 
@@ -87,4 +87,14 @@ pub fn mul_add_capped(a: u64, b: u64, c: u64, cap: u64) -> u64
         return p + c;
     }
     cap
+}
+
+// `a - b`, or 0 where b is above it.
+pub fn less(a: u64, b: u64) -> u64
+    ensures { λ r. ⌜ r ≡ a - b ⌝ }
+{
+    if a < b {
+        return 0;
+    }
+    a - b
 }
