@@ -34,7 +34,7 @@ fn main() {
         b"time-of-100",
         b"count-at-100",
     );
-    rows::bench_messages(
+    bench_stamps::timed::bench(
         timed,
         &messages,
         &counts[0..100],

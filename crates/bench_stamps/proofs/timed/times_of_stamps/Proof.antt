@@ -1,8 +1,8 @@
 use borrow.Author.Needs.{needs}
 use native.Mathlib.Omega.{arith}
 use Prim.Native.Nat.{_-_, _<_}
-use Rattle.bench.proofs.rows.times_of_messages.Statement.{statement}
-use Rattle.bench.proofs.rows.times_of_messages.Tie as tie
+use Rattle.bench_stamps.proofs.timed.times_of_stamps.Statement.{statement}
+use Rattle.bench_stamps.proofs.timed.times_of_stamps.Tie as tie
 
 abbrev Inv-loop : tie.InvT-loop
 Inv-loop messages counts times rates asked sum₀ x₀ k₀ sum x k = (x < 2147483648) × (sum < 1000000007)
@@ -13,8 +13,8 @@ abbrev μ-loop : tie.MeasureT-loop
 loop-holds : tie.Need-loop-holds Inv-loop μ-loop
 loop-holds c = (omega arith, omega arith)
 
-pub times-of-messages-spec : {M : Type 1} → statement M
-times-of-messages-spec =
+pub times-of-stamps-spec : {M : Type 1} → statement M
+times-of-stamps-spec =
     tie.close
     (tie.spec
     Inv-loop
