@@ -1,5 +1,5 @@
 // A stamp, and a message, to its count and time under one partition.
-ghost use Prim.Native.Nat.{_<_};
+ghost use Prim.Native.Nat.{_≤_, _<_};
 use crate::MESSAGE;
 use crate::TEXT;
 use bench_report::LAST;
@@ -20,94 +20,59 @@ pub fn bench(
     asked: u64,
 ) {
     let from = libc::clock();
-    let sum = times_of_stamps(messages, counts, times, rates, asked);
+    let sum = marks(messages, TEXT, counts, times, rates, asked);
     line(b"stamp-time-100", asked, sum, timed, from);
     let from = libc::clock();
-    let sum = times_of_messages(messages, counts, times, rates, asked);
+    let sum = marks(messages, MESSAGE, counts, times, rates, asked);
     line(b"message-time-100", asked, sum, timed, from);
 }
 
-fn times_of_stamps(
+// Each question is the first `size` bytes of a message.
+fn marks(
     messages: &[u8],
+    size: usize,
     counts: &[u64],
     times: &[i64],
     rates: &[u64],
     asked: u64,
-) -> u64 {
+) -> u64
+    requires { ⌜ size ≤ 16 ⌝ }
+{
     let mut sum: u64 = 0;
     let mut x: u64 = 1;
     let mut k: u64 = 0;
     while k < asked {
         x = next(x);
-        sum = mixed(
-            sum,
-            stamp_mark(messages, (x % 256) as usize * MESSAGE, counts, times, rates),
-        );
+        let at = (x % 256) as usize * MESSAGE;
+        sum = mixed(sum, mark(messages, at, size, counts, times, rates));
         k += 1;
     }
     sum
 }
 
-fn stamp_mark(messages: &[u8], at: usize, counts: &[u64], times: &[i64], rates: &[u64]) -> u64
-    requires { ⌜ at < 4096 ⌝ }
-{
-    let end = at + TEXT;
-    if messages.len() < end {
-        return 0;
-    }
-    mark(time_of_stamp(
-        layout(),
-        &[0],
-        &[LAST],
-        counts,
-        times,
-        rates,
-        &messages[at..end],
-    ))
-}
-
-fn times_of_messages(
+fn mark(
     messages: &[u8],
+    at: usize,
+    size: usize,
     counts: &[u64],
     times: &[i64],
     rates: &[u64],
-    asked: u64,
-) -> u64 {
-    let mut sum: u64 = 0;
-    let mut x: u64 = 1;
-    let mut k: u64 = 0;
-    while k < asked {
-        x = next(x);
-        sum = mixed(
-            sum,
-            message_mark(messages, (x % 256) as usize * MESSAGE, counts, times, rates),
-        );
-        k += 1;
-    }
-    sum
-}
-
-fn message_mark(messages: &[u8], at: usize, counts: &[u64], times: &[i64], rates: &[u64]) -> u64
-    requires { ⌜ at < 4096 ⌝ }
+) -> u64
+    requires { ⌜ (at < 4096) × (size ≤ 16) ⌝ }
 {
-    let end = at + MESSAGE;
+    let end = at + size;
     if messages.len() < end {
         return 0;
     }
-    mark(time_of_message(
-        layout(),
-        &[0],
-        &[LAST],
-        counts,
-        times,
-        rates,
-        &messages[at..end],
-    ))
-}
-
-fn mark(answer: StampAnswer) -> u64 {
-    match answer {
+    match time_of(&messages[at..end], counts, times, rates) {
         StampAnswer::Stamp(stamp) => stamp.count ^ signed::ordinal(stamp.time),
         StampAnswer::Refused(refusal) => refusal.number,
     }
+}
+
+fn time_of(bytes: &[u8], counts: &[u64], times: &[i64], rates: &[u64]) -> StampAnswer {
+    if bytes.len() == TEXT {
+        return time_of_stamp(layout(), &[0], &[LAST], counts, times, rates, bytes);
+    }
+    time_of_message(layout(), &[0], &[LAST], counts, times, rates, bytes)
 }
