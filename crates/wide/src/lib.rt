@@ -53,10 +53,13 @@ pub fn mul(a: u64, b: u64) -> Wide
 pub fn at_most(a: Wide, b: Wide) -> bool
     ensures { λ r. ⌜ r ≡ leb (value a) (value b) ⌝ }
 {
-    if a.hi == b.hi {
-        return a.lo <= b.lo;
+    if a.hi < b.hi {
+        return true;
     }
-    a.hi < b.hi
+    if b.hi < a.hi {
+        return false;
+    }
+    a.lo <= b.lo
 }
 
 pub fn product_at_most(a: u64, b: u64, c: u64, d: u64) -> bool
