@@ -1,8 +1,7 @@
 // The segment check, and whether accepted segments step back: one pass over the rows each.
 ghost use mathlib.Core.Path.{_≡_};
-ghost use Prim.Native.Nat.{_≤_, _<_};
-ghost use lib.ListN.{length};
-ghost use Rattle.rules.specs.Segments.{segments, segmentEnd, stepsBack};
+ghost use Prim.Native.Nat.{_≤_};
+ghost use Rattle.rules.specs.Segments.{segments, stepsBack};
 ghost use Rattle.segments.specs.Rows.{checkAnswer, acceptedSegments, Rising};
 use crate::row::Previous;
 use crate::row::overtakes;
@@ -18,7 +17,7 @@ pub enum CheckAnswer {
     Refused(Refusal),
 }
 
-// `unit` is the layout's 1,000×MSF, `total` that of the partitions.
+// `unit` is the layout's 1,000×MSF, `total` that of the partitions. A row ends at the next one's count, the last at the total.
 pub fn check(unit: u64, total: u64, counts: &[u64], times: &[i64], rates: &[u64]) -> CheckAnswer
     requires { ⌜ 1 ≤ unit ⌝ }
     ensures { λ r. ⌜ checkAnswer r ≡ acceptedSegments unit total (segments (now (counts .entry)) (now (times .entry)) (now (rates .entry))) ⌝ }
@@ -39,28 +38,21 @@ pub fn check(unit: u64, total: u64, counts: &[u64], times: &[i64], rates: &[u64]
     if total < counts[n - 1] {
         return CheckAnswer::Refused(refusals::SEGMENTS);
     }
+    let last = n - 1;
     let mut before = Previous::Nothing;
     let mut i = 0;
-    while i < n {
+    while i < last {
         let row = row_at(counts, times, rates, i);
-        if !row_ok(unit, before, row, end_of(counts, total, i)) {
+        if !row_ok(unit, before, row, counts[i + 1]) {
             return CheckAnswer::Refused(refusals::SEGMENTS);
         }
         before = Previous::Row(row);
         i += 1;
     }
-    CheckAnswer::Accepted
-}
-
-// Where row `i` ends: at the next one's count, the last at the total.
-fn end_of(counts: &[u64], total: u64, i: usize) -> u64
-    requires { ⌜ i < length (now counts) ⌝ }
-    ensures { λ r. ⌜ r ≡ segmentEnd total (now (counts .entry)) i ⌝ }
-{
-    if i + 1 < counts.len() {
-        return counts[i + 1];
+    if !row_ok(unit, before, row_at(counts, times, rates, last), total) {
+        return CheckAnswer::Refused(refusals::SEGMENTS);
     }
-    total
+    CheckAnswer::Accepted
 }
 
 // Whether some line, rounded up, at the next segment's count is later than the next segment's time.
