@@ -31,25 +31,6 @@ module _ (b : ℕ) where
       down : b - suc m ≤ b - suc n → n ≤ m
       down h = omega arith
 
-  pub ordinal-lt : (x y : ℤ) → mag x < b → mag y < b → ltZ x y ≡ ltb (ordinal b x) (ordinal b y)
-  unfolding ordinal
-  ordinal-lt (pos m) (pos n) hx hy = same-test (ltb m n) (ltb (b + m) (b + n)) (λ t. lt-ltb _ _ (up (ltb-true m n t))) (λ t. lt-ltb m n (down (ltb-true (b + m) (b + n) t)))
-    where
-      up : m < n → b + m < b + n
-      up h = omega arith
-
-      down : b + m < b + n → m < n
-      down h = omega arith
-  ordinal-lt (pos m) (negsuc n) hx hy = sym (le-ltb (b + m) (b - suc n) (omega arith))
-  ordinal-lt (negsuc m) (pos n) hx hy = sym (lt-ltb (b - suc m) (b + n) (omega arith))
-  ordinal-lt (negsuc m) (negsuc n) hx hy = same-test (ltb n m) (ltb (b - suc m) (b - suc n)) (λ t. lt-ltb _ _ (up (ltb-true n m t))) (λ t. lt-ltb n m (down (ltb-true (b - suc m) (b - suc n) t)))
-    where
-      up : n < m → b - suc m < b - suc n
-      up h = omega arith
-
-      down : b - suc m < b - suc n → n < m
-      down h = omega arith
-
   -- a time d later
   pub ordinal-later : (x : ℤ) (d : ℕ) → mag x < b → ordinal b (later x d) ≡ ordinal b x + d
   unfolding ordinal later

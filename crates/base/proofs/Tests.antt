@@ -44,15 +44,6 @@ or-second false h = h
 pub or-neither : {a b : Bool} → a ≡ false → b ≡ false → (a || b) ≡ false
 or-neither {a} {b} p q = rw (p, q)
 
-pub or-out-first : (a b : Bool) → (a || b) ≡ false → a ≡ false
-or-out-first true b h = h
-or-out-first false b h = refl
-
-pub or-out-second : (a b : Bool) → (a || b) ≡ false → b ≡ false
-or-out-second true true h = h
-or-out-second true false h = refl
-or-out-second false b h = h
-
 -- of a list of tests that all hold, the first and the rest
 pub all-of-head : (t : Bool) (ts : List Bool) → allOf (t ∷ ts) ≡ true → t ≡ true
 unfolding allOf
@@ -61,14 +52,6 @@ all-of-head t ts h = and-first t (allOf ts) h
 pub all-of-tail : (t : Bool) (ts : List Bool) → allOf (t ∷ ts) ≡ true → allOf ts ≡ true
 unfolding allOf
 all-of-tail t ts h = and-second t (allOf ts) h
-
-pub all-of-cons : {t : Bool} (ts : List Bool) → t ≡ true → allOf ts ≡ true → allOf (t ∷ ts) ≡ true
-unfolding allOf
-all-of-cons ts p q = and-both p q
-
-pub all-of-nil : allOf [] ≡ true
-unfolding allOf
-all-of-nil = refl
 
 -- of two tests that hold in the same cases
 pub same-test : (a b : Bool) → (a ≡ true → b ≡ true) → (b ≡ true → a ≡ true) → a ≡ b

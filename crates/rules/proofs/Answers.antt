@@ -7,6 +7,9 @@ use Rattle.rules.specs.declared.Refusal.{Refusal}
 use Rattle.rules.specs.Answer.{Answer, answer, refused, unless}
 
 module _ {A : Type 0} where
+  pub payload : {x y : A} → _≡_ {A = Answer A} (answer x) (answer y) → x ≡ y
+  payload q = cc
+
   pub not-answer : {k : Refusal} {v : A} → _≡_ {A = Answer A} (refused k) (answer v) → ⊥
   not-answer h = let z : _≡_ {A = ℕ} 0 1 = cc in omega arith
 

@@ -10,7 +10,7 @@ use Rattle.rules.specs.Partitions.{Partitions, partitionsOk, totalOf}
 use Rattle.rules.specs.Segments.{Segments, segmentsOk}
 use Rattle.rules.specs.Accepted.{accepted}
 use Rattle.rules.proofs.Accepted.{layout-facts, partitions-facts, segments-facts}
-use Rattle.rules.proofs.Answers.{not-answer, unless-test, unless-rest}
+use Rattle.rules.proofs.Answers.{payload, not-answer, unless-test, unless-rest}
 use Rattle.rules.specs.Facts.{LayoutFacts}
 use Rattle.layouts.specs.declared.Measured.{Measured}
 use Rattle.layouts.specs.declared.MeasureAnswer.{MeasureAnswer}
@@ -22,10 +22,6 @@ use Rattle.tables.specs.declared.Acceptance.{Acceptance}
 use Rattle.tables.specs.declared.Acceptance.the-variants.{Accepted, Refused}
 use Rattle.tables.specs.Accept.{basis, acceptance, stampsBasis, tableBasis, StampsFacts, TableFacts}
 use Rattle.tables.proofs.Guards.{passed, refused-same, then-unless}
-
--- two answers with one payload
-payload : {A : Type 0} {x y : A} → answer x ≡ answer y → x ≡ y
-payload q = cc
 
 module _ (l : Layout) (m : MeasureAnswer) (w : measureAnswer m ≡ measureOf l) where
   pub layout-refused : {A : Type 0} (k : Refusal) (a : Answer A) → m ≡ Of.Refused k → refused k ≡ unless 1 (layoutOk l) a

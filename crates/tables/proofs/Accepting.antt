@@ -9,7 +9,7 @@ use Rattle.rules.specs.Layout.{unitOf}
 use Rattle.rules.specs.Partitions.{Partitions, partitionsOk, totalOf}
 use Rattle.rules.specs.Segments.{Segments, segmentsOk, stepsBack}
 use Rattle.rules.specs.Time.{stepsBackIn}
-use Rattle.rules.proofs.Answers.{not-answer, unless-rest}
+use Rattle.rules.proofs.Answers.{payload, not-answer, unless-rest}
 use Rattle.layouts.specs.declared.Measured.{Measured}
 use Rattle.layouts.specs.declared.MeasureAnswer.{MeasureAnswer}
 use Rattle.layouts.specs.declared.MeasureAnswer.the-variants as Of
@@ -74,9 +74,6 @@ module _ (measured : MeasureAnswer) (p : Partitions) (g : Segments) (a : Accepta
     pub all-three : c ≡ Checks.Accepted → answer b ≡ andThen (measureAnswer measured) (tableBasis p g)
     unfolding andThen
     all-three h = rw h at after-check
-
-payload : {A : Type 0} {x y : A} → answer x ≡ answer y → x ≡ y
-payload q = cc
 
 -- the unit of a basis may divide
 pub unit-divides : (measured : MeasureAnswer) (p : Partitions) (a : Acceptance) → InLimits measured → acceptance a ≡ andThen (measureAnswer measured) (stampsBasis p) → (b : Basis) → a ≡ Accepted b → 1 ≤ b .unit

@@ -24,7 +24,7 @@ use Rattle.rules.specs.Facts.{SegmentsFacts}
 use Rattle.rules.specs.Accepted.{accepted}
 use Rattle.rules.specs.Time.{segmentOf, segmentAt, timeOn, timeIn, timeOf, notBeyond, countOn, countIn, countAt, ticksSince, lineCount, stoppedAt}
 use Rattle.rules.proofs.Accepted.{layout-facts, segments-facts}
-use Rattle.rules.proofs.Answers.{not-answer, unless-test, unless-rest}
+use Rattle.rules.proofs.Answers.{payload, not-answer, unless-test, unless-rest}
 use Rattle.layouts.specs.Measure.{UnitFacts}
 use Rattle.layouts.proofs.Units.{unit-facts}
 use Rattle.time.specs.Promises.{TimeIsNearest, CountIsNearest, TickLasts, TimeInRange, TwelveNotThirteen}
@@ -45,9 +45,6 @@ passed l p g a x e =
       segments = segments-facts (unitOf l) (totalOf p) g (unless-test 3 (segmentsOk (unitOf l) (totalOf p) g) a x e3);
       rest = unless-rest 3 (segmentsOk (unitOf l) (totalOf p) g) a x e3;
     }
-
-payload : {A : Type 0} {x y : A} → answer x ≡ answer y → x ≡ y
-payload q = cc
 
 -- the segment behind an answer
 time-found : (unit : ℕ) (g : Segments) (e : ℕ) (t : ℤ) (o : Option ℕ) → timeOn unit g e o ≡ answer (timeOfCount t) → (i : ℕ) × (o ≡ some i) × (t ≡ lineAt unit (rowOf g i) e)
