@@ -21,7 +21,7 @@ use Rattle.tables.specs.declared.Acceptance.the-variants.{Accepted, Refused}
 use Rattle.tables.specs.declared.Basis.{Basis}
 use Rattle.tables.specs.Accept.{acceptance, stampsBasis}
 use Rattle.tables.proofs.Accepted.{layout-refused, layout-good, layout-product, layout-accepted, stamps-facts, stamps-refused, stamps-accepted}
-use Rattle.print.specs.Printed.{Printed}
+use Rattle.buffer_print.specs.Printed.{Printed}
 
 -- the two clauses of a contract
 pub both : (r : PrintAnswer) {a : Answer (List ℕ)} {entry exit : List ℕ} → Printed a r entry exit → (printAnswer r ≡ lengthPrinted a) × (exit ≡ bufferAfter a entry)

@@ -9,17 +9,15 @@ ghost use Rattle.rules.specs.Layout.{productOf};
 ghost use Rattle.rules.specs.Limits.{lastDelimiter};
 ghost use Rattle.rules.specs.Partitions.{partitions, totalOf};
 ghost use Rattle.rules.specs.Print.{delimiterByte, countPrint, stampPrint, fitting, printCount, printStamp, lengthPrinted, bufferAfter};
-ghost use Rattle.print.specs.Printed.{Printed};
-use crate::buffered::print_fields;
-use crate::buffered::print_numbered;
+ghost use Rattle.buffer_print.specs.Printed.{Printed};
+use buffer_print::print_fields;
+use buffer_print::print_numbered;
 use decode::decode;
 use layouts::MeasureAnswer;
 use layouts::measure;
 use rules::Layout;
 use rules::PrintAnswer;
 use tables::Acceptance;
-
-mod buffered;
 
 // Prints a count below P as clock text.
 pub fn print_count(layout: Layout, count: u64, buffer: &mut [u8]) -> PrintAnswer

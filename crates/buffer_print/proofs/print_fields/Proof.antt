@@ -1,7 +1,7 @@
-use Rattle.print.proofs.Fitting.{fields-room, fields-fit, fields-short}
+use Rattle.buffer_print.proofs.Fitting.{fields-room, fields-fit, fields-short}
 use borrow.Author.Needs.{needs}
-use Rattle.print.proofs.buffered.print_fields.Statement.{statement}
-use Rattle.print.proofs.buffered.print_fields.Tie as tie
+use Rattle.buffer_print.proofs.print_fields.Statement.{statement}
+use Rattle.buffer_print.proofs.print_fields.Tie as tie
 
 pub print-fields-spec : {M : Type 1} → statement M
 print-fields-spec =

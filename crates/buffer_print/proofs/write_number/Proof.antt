@@ -1,7 +1,7 @@
-use Rattle.print.proofs.Numbered.{number-room, number-written, slash-room}
+use Rattle.buffer_print.proofs.Numbered.{number-room, number-written, slash-room}
 use borrow.Author.Needs.{needs}
-use Rattle.print.proofs.buffered.write_number.Statement.{statement}
-use Rattle.print.proofs.buffered.write_number.Tie as tie
+use Rattle.buffer_print.proofs.write_number.Statement.{statement}
+use Rattle.buffer_print.proofs.write_number.Tie as tie
 
 pub write-number-spec : {M : Type 1} → statement M
 write-number-spec =

@@ -7,7 +7,7 @@ ghost use Rattle.rules.specs.Limits.{mostPartitions};
 ghost use Rattle.rules.specs.Print.{digitCount, fitting, padded, fieldsPrint};
 ghost use Rattle.decimal.specs.Writing.{Room, Written};
 ghost use Rattle.field_print.specs.Facts.{FieldsFacts};
-ghost use Rattle.print.specs.Printed.{Printed};
+ghost use Rattle.buffer_print.specs.Printed.{Printed};
 use field_print::fields_length;
 use field_print::write_fields;
 use rules::PrintAnswer;

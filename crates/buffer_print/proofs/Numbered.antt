@@ -11,8 +11,8 @@ use Rattle.decimal.specs.Writing.{Room, Written}
 use Rattle.roundtrip.proofs.Digits.{digits-some, padded-length}
 use Rattle.decimal.proofs.RightToLeft.{written-append}
 use Rattle.field_print.specs.Facts.{FieldsLength}
-use Rattle.print.specs.Printed.{Printed}
-use Rattle.print.proofs.Fitting.{print-fits, print-short}
+use Rattle.buffer_print.specs.Printed.{Printed}
+use Rattle.buffer_print.proofs.Fitting.{print-fits, print-short}
 
 -- the number unpadded
 module _ (number digits : ℕ) (e : digits ≡ digitCount number) where

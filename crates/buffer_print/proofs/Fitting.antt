@@ -11,7 +11,7 @@ use Rattle.rules.specs.Print.{fieldsPrint, fitting, lengthPrinted, bufferAfter}
 use Rattle.decimal.specs.Writing.{Room, Written}
 use Rattle.decimal.proofs.RightToLeft.{put-front}
 use Rattle.field_print.specs.Facts.{FieldsLength}
-use Rattle.print.specs.Printed.{Printed}
+use Rattle.buffer_print.specs.Printed.{Printed}
 
 module _ (s : List ℕ) (n : ℕ) (long : n ≡ length s) (room : ℕ) where
   pub print-fits : (start : ℕ) (entry exit : List ℕ) → n ≤ room → Written s n start entry exit → Printed (fitting room s) (Prints.Length n) entry exit

@@ -1,7 +1,7 @@
-use Rattle.print.proofs.Numbered.{numbered-room, rest-room, numbered-fit, numbered-short}
+use Rattle.buffer_print.proofs.Numbered.{numbered-room, rest-room, numbered-fit, numbered-short}
 use borrow.Author.Needs.{needs}
-use Rattle.print.proofs.buffered.print_numbered.Statement.{statement}
-use Rattle.print.proofs.buffered.print_numbered.Tie as tie
+use Rattle.buffer_print.proofs.print_numbered.Statement.{statement}
+use Rattle.buffer_print.proofs.print_numbered.Tie as tie
 
 write-fields-requires : tie.Need-write-fields-requires
 write-fields-requires c κs = (search needs, search (numbered-room, needs))
