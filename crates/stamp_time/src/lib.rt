@@ -6,6 +6,7 @@ ghost use Rattle.rules.specs.Segments.{segments};
 ghost use Rattle.rules.specs.StampTime.{timeOfStamp, timeOfMessage};
 ghost use Rattle.tables.specs.Accept.{BasisFacts};
 ghost use Rattle.stamp_time.specs.Count.{timedCount};
+use conversion::time_within;
 use layouts::measure;
 use message::TextStart;
 use message::text_part;
@@ -19,7 +20,6 @@ use segments::CheckAnswer;
 use tables::Acceptance;
 use tables::accept_stamps;
 use text::stamp_in;
-use time::within::time_within;
 
 // Segments are checked once the stamp is read, so a refusal of reading comes before 3.
 pub fn time_of_stamp(

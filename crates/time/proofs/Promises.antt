@@ -28,7 +28,7 @@ use Rattle.rules.proofs.Answers.{payload, not-answer, unless-test, unless-rest}
 use Rattle.layouts.specs.Measure.{UnitFacts}
 use Rattle.layouts.proofs.Units.{unit-facts}
 use Rattle.time.specs.Promises.{TimeIsNearest, CountIsNearest, TickLasts, TimeInRange, TwelveNotThirteen}
-use Rattle.time.proofs.Rows.{reached, count-below, count-row, time-row}
+use Rattle.conversion.proofs.Rows.{reached, count-below, count-row, time-row}
 
 record Passed (A : Type 0) (l : Layout) (p : Partitions) (g : Segments) (a : Answer A) (x : A) : Type 0 where
   unit : UnitFacts (unitOf l)

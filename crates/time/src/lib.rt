@@ -4,16 +4,14 @@ ghost use Rattle.rules.specs.Answer.{timeAnswer, countAnswer};
 ghost use Rattle.rules.specs.Partitions.{partitions};
 ghost use Rattle.rules.specs.Segments.{segments};
 ghost use Rattle.rules.specs.Time.{timeOf, countAt};
-use crate::within::count_within;
-use crate::within::time_within;
+use conversion::count_within;
+use conversion::time_within;
 use layouts::measure;
 use rules::CountAnswer;
 use rules::Layout;
 use rules::TimeAnswer;
 use tables::Acceptance;
 use tables::accept;
-
-pub mod within;
 
 // The time of an encoded count.
 pub fn time_of(

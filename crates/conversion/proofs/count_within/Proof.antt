@@ -1,7 +1,7 @@
-use Rattle.time.proofs.Conversions.{out-of-range, before-all, time-in-lists, stoppable, row-to-ticks, sum-fits, count-is}
+use Rattle.conversion.proofs.Conversions.{out-of-range, before-all, time-in-lists, stoppable, row-to-ticks, sum-fits, count-is}
 use borrow.Author.Needs.{needs}
-use Rattle.time.proofs.within.count_within.Statement.{statement}
-use Rattle.time.proofs.within.count_within.Tie as tie
+use Rattle.conversion.proofs.count_within.Statement.{statement}
+use Rattle.conversion.proofs.count_within.Tie as tie
 
 -- /work/main/target/rlib/refusals.rlib/interface/lang/src/lib.rt:14:44
 

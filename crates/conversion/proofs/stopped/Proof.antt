@@ -1,7 +1,7 @@
-use Rattle.time.proofs.Conversions.{next-counts, stops, goes-on, last-goes-on}
+use Rattle.conversion.proofs.Conversions.{next-counts, stops, goes-on, last-goes-on}
 use borrow.Author.Needs.{needs}
-use Rattle.time.proofs.within.stopped.Statement.{statement}
-use Rattle.time.proofs.within.stopped.Tie as tie
+use Rattle.conversion.proofs.stopped.Statement.{statement}
+use Rattle.conversion.proofs.stopped.Tie as tie
 
 pub stopped-spec : {M : Type 1} → statement M
 stopped-spec =

@@ -1,7 +1,7 @@
-use Rattle.time.proofs.Conversions.{beyond-total, before-first, count-in-lists, row-to-time, time-is}
+use Rattle.conversion.proofs.Conversions.{beyond-total, before-first, count-in-lists, row-to-time, time-is}
 use borrow.Author.Needs.{needs}
-use Rattle.time.proofs.within.time_within.Statement.{statement}
-use Rattle.time.proofs.within.time_within.Tie as tie
+use Rattle.conversion.proofs.time_within.Statement.{statement}
+use Rattle.conversion.proofs.time_within.Tie as tie
 
 -- /work/main/target/rlib/refusals.rlib/interface/lang/src/lib.rt:14:44
 

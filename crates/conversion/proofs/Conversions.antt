@@ -26,8 +26,8 @@ use Rattle.segment_line.specs.Line.{ToTime, ToTicks}
 use Rattle.segment_search.specs.declared.Found.{Found}
 use Rattle.segment_search.specs.declared.Found.the-variants as Of
 use Rattle.segment_search.specs.Found.{found}
-use Rattle.time.specs.Stop.{Stoppable}
-use Rattle.time.proofs.Rows.{count-below, next-positive, in-lists, count-row, line-to-time, time-row, line-to-ticks, ticks-small}
+use Rattle.conversion.specs.Stop.{Stoppable}
+use Rattle.conversion.proofs.Rows.{count-below, next-positive, in-lists, count-row, line-to-time, time-row, line-to-ticks, ticks-small}
 
 module _ (total c : ℕ) where
   pub beyond : total < c → refuse 14 ≡ notBeyond total c

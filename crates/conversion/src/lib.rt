@@ -8,7 +8,7 @@ ghost use Rattle.rules.specs.Segments.{segments};
 ghost use Rattle.rules.specs.Facts.{SegmentsFacts};
 ghost use Rattle.rules.specs.Time.{stoppedAt, notBeyond, timeIn, countIn};
 ghost use Rattle.tables.specs.Accept.{BasisFacts};
-ghost use Rattle.time.specs.Stop.{Stoppable};
+ghost use Rattle.conversion.specs.Stop.{Stoppable};
 use layouts::limits::EARLIEST_TIME;
 use layouts::limits::LATEST_TIME;
 use rules::CountAnswer;
