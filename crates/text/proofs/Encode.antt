@@ -17,9 +17,9 @@ use Rattle.encode.specs.declared.Encoded.{Encoded}
 use Rattle.encode.specs.declared.Encoded.the-variants as Encodes
 use Rattle.encode.specs.Encoded.{encodedAnswer}
 use Rattle.fields.specs.Pass.{fieldCap}
-use Rattle.text.specs.declared.ParsedStamp.{ParsedStamp}
-use Rattle.text.specs.declared.ParsedStamp.the-variants as Parses
-use Rattle.text.specs.ParsedStamp.{parsedAnswer, capped}
+use Rattle.parse.specs.declared.ParsedStamp.{ParsedStamp}
+use Rattle.parse.specs.declared.ParsedStamp.the-variants as Parses
+use Rattle.parse.specs.ParsedStamp.{parsedAnswer, capped}
 
 -- an encoded count is a reading
 module _ (x : Encoded) (f : ℕ → Answer Reading) where

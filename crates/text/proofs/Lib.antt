@@ -1,6 +1,4 @@
--- The laws of reading: the layout's slots, the first `/`, parsing, and encoding.
+-- The layout's slots, encoding what was parsed, and each way out of the two calls.
 pub mod Slots
-pub mod Slash
-pub mod Parse
 pub mod Encode
 pub mod Calls

@@ -27,9 +27,9 @@ use Rattle.fields.specs.Pass.{fieldCap, begun, scanFrom, total, alone}
 use Rattle.fields.proofs.Ladder.{counted}
 use Rattle.fields.proofs.Front.{front-one, front-value}
 use Rattle.fields.proofs.Stops.{all-not, all-allowed, whole-pass, not-allowed, front-allowed, front-pass, front-stop}
-use Rattle.text.specs.declared.ParsedStamp.{ParsedStamp}
-use Rattle.text.specs.ParsedStamp.{parsedAnswer, capped}
-use Rattle.text.proofs.Slash.{no-slash-byte, all-at-place, slash, slash-first, slash-none, no-slash}
+use Rattle.parse.specs.declared.ParsedStamp.{ParsedStamp}
+use Rattle.parse.specs.ParsedStamp.{parsedAnswer, capped}
+use Rattle.parse.proofs.Slash.{no-slash-byte, all-at-place, slash, slash-first, slash-none, no-slash}
 
 -- a count is passed on with its number, and so is a refusal
 module _ (q : ReadAnswer) (f : Reading → Answer Parsed) where

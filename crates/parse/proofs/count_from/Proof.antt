@@ -1,7 +1,7 @@
 use borrow.Author.Needs.{needs}
-use Rattle.text.proofs.Parse.{count-other, count-all}
-use Rattle.text.proofs.count_from.Statement.{statement}
-use Rattle.text.proofs.count_from.Tie as tie
+use Rattle.parse.proofs.Parse.{count-other, count-all}
+use Rattle.parse.proofs.count_from.Statement.{statement}
+use Rattle.parse.proofs.count_from.Tie as tie
 
 returns : tie.Need-returns
 returns c = search (count-other, needs)

@@ -1,8 +1,8 @@
 use borrow.Author.Needs.{needs}
 use borrow.Author.Tests.{not-true, not-false}
-use Rattle.text.proofs.Parse.{stamp-long, stamp-unnamed, stamp-other, front-bad, stamp-named}
-use Rattle.text.proofs.parse_stamp.Statement.{statement}
-use Rattle.text.proofs.parse_stamp.Tie as tie
+use Rattle.parse.proofs.Parse.{stamp-long, stamp-unnamed, stamp-other, front-bad, stamp-named}
+use Rattle.parse.proofs.parse_stamp.Statement.{statement}
+use Rattle.parse.proofs.parse_stamp.Tie as tie
 
 returns : tie.Need-returns
 returns c = search (stamp-long, needs)

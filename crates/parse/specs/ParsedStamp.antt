@@ -3,8 +3,8 @@ use Prim.Native.Nat.{min}
 use Rattle.rules.specs.Answer.{Answer, answer, refused}
 use Rattle.rules.specs.Stamp.{Parsed, named, unnamed}
 use Rattle.fields.specs.Pass.{fieldCap}
-use Rattle.text.specs.declared.ParsedStamp.{ParsedStamp}
-use Rattle.text.specs.declared.ParsedStamp.the-variants as Parses
+use Rattle.parse.specs.declared.ParsedStamp.{ParsedStamp}
+use Rattle.parse.specs.declared.ParsedStamp.the-variants as Parses
 
 abbrev pub parsedAnswer : ParsedStamp → Answer Parsed
 parsedAnswer (Parses.Named k r) = answer (named k r)

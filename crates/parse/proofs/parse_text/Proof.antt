@@ -1,7 +1,7 @@
 use borrow.Author.Needs.{needs}
-use Rattle.text.proofs.Parse.{text-long, text-short}
-use Rattle.text.proofs.parse_text.Statement.{statement}
-use Rattle.text.proofs.parse_text.Tie as tie
+use Rattle.parse.proofs.Parse.{text-long, text-short}
+use Rattle.parse.proofs.parse_text.Statement.{statement}
+use Rattle.parse.proofs.parse_text.Tie as tie
 
 returns : tie.Need-returns
 returns c = search (text-long, needs)
