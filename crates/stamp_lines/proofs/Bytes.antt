@@ -1,6 +1,6 @@
 -- The bytes of a text, of a number, of a time and of an answer, as the code puts them.
 use Prim.Native.Nat.{ℕ, _+_, _-_, _^_, _≤_, _<_}
-use mathlib.Core.Path.{_≡_, refl, sym, _∙_}
+use mathlib.Core.Path.{_≡_, _∙_}
 use mathlib.Core.List.{List, [], _∷_, _++_, append-assoc}
 use lib.IntN.{ℤ, pos, negsuc}
 use lib.ListN.{length, take, set, getD}
@@ -16,7 +16,7 @@ use Rattle.rules.specs.declared.Refusal.{Refusal}
 use Rattle.rules.specs.declared.StampAnswer.{StampAnswer}
 use Rattle.rules.specs.declared.StampAnswer.the-variants as Of
 use Rattle.rules.specs.declared.TimedStamp.{TimedStamp}
-use Rattle.rules.specs.Answer.{Answer, answer, refused, stampAnswer}
+use Rattle.rules.specs.Answer.{answer, refused, stampAnswer}
 use Rattle.rules.specs.Examples.{bytes}
 use Rattle.rules.specs.Print.{digitCount, lastDigits}
 use Rattle.decimal.specs.Writing.{Room, Written}

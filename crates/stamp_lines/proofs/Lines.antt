@@ -2,19 +2,19 @@
 use Prim.Native.Nat.{ℕ, suc, _+_, _-_, _≤_, _<_, min}
 use mathlib.Core.Path.{_≡_, refl, sym, ap, _∙_}
 use mathlib.Core.Bool.{Bool, true, false, cond}
-use mathlib.Core.List.{List, [], _∷_, _++_, map, flatten, append-nil, append-assoc}
+use mathlib.Core.List.{List, [], _∷_, _++_, flatten, append-nil, append-assoc}
 use lib.ListN.{length, take, drop, replicate, length-take, length-replicate, take-append-drop}
-use lib.Seq.{slice, slice-empty, take-add, drop-append-le, drop-drop, take-all, length-take-le, take-append-seam}
+use lib.Seq.{slice, slice-empty, take-add, drop-append-le, length-take-le}
 use native.Mathlib.Omega.{arith}
 use Rattle.rules.specs.declared.TimedStamp.{TimedStamp}
 use Rattle.rules.specs.Answer.{Answer}
 use Rattle.lines.specs.declared.LineStep.{LineStep}
-use Rattle.lines.specs.Steps.{Carried, carried, fed, lineLeft, lastLine, endsIn, takenIn, keptWith, nextLine, lineAfter, carriedOn}
+use Rattle.lines.specs.Steps.{Carried, carried, fed, lineLeft, lastLine, takenIn, nextLine, lineAfter, carriedOn}
 use Rattle.lines.proofs.Whole.{fed-join}
 use Rattle.lines.proofs.Turn.{step-fed, kept-now, left-alone}
 use Rattle.decimal.specs.Writing.{Written}
 use Rattle.decimal.proofs.LeftToRight.{nothing-written, written-then}
-use Rattle.stamp_lines.specs.Output.{lineStamp, stampBytes, answerLine, answersOf, longestAnswer}
+use Rattle.stamp_lines.specs.Output.{lineStamp, stampBytes, answerLine, answersOf}
 use Rattle.stamp_lines.specs.Pieces.{lineBuffer, pieceAnswers, lastAnswer, endedAnswer, Answered}
 
 -- an answer that the code gives of a line

@@ -1,5 +1,5 @@
 -- Wherever an input is cut, what is written of its pieces, behind one another, is the output of the whole input.
-use Prim.Native.Nat.{ℕ, _≤_, _<_}
+use Prim.Native.Nat.{ℕ, _<_}
 use mathlib.Core.Path.{_≡_, refl, sym, ap, _∙_}
 use mathlib.Core.Bool.{true}
 use mathlib.Core.List.{List, [], _∷_, _++_, map, flatten, append-assoc}
@@ -19,7 +19,7 @@ use Rattle.lines.specs.Steps.{Carried, carried, fed, fedChunks, lineLeft, allLi
 use Rattle.lines.proofs.Whole.{whole-cut, enough}
 use Rattle.lines.proofs.Turn.{ended-after, left-alone}
 use Rattle.stamp_lines.specs.Output.{lineStamp, stampBytes, answerLine, answersOf, outputOf}
-use Rattle.stamp_lines.specs.Pieces.{lineBuffer, pieceAnswers, lastAnswer, piecesOutput}
+use Rattle.stamp_lines.specs.Pieces.{lineBuffer, pieceAnswers, lastAnswer, piecesOutput, WholeOutput}
 use Rattle.stamp_lines.proofs.Lines.{answers-append}
 
 -- "A line over 96 bytes prints `refused 4`"
@@ -57,7 +57,7 @@ pieces-from ls l (s ∷ ss) =
     ∙ (pieces-from (ls ++ fed lineBuffer (carried [] l) s .ended) (lineLeft lineBuffer l s) ss
     ∙ rw (answers-append ls (fed lineBuffer (carried [] l) s .ended), append-assoc))
 
-pub whole-output : (ss : List (List ℕ)) → piecesOutput [] ss ≡ outputOf (flatten ss)
+pub whole-output : WholeOutput
 unfolding outputOf answersOf flatten
 whole-output ss =
     sym (pieces-from [] [] ss) ∙ (ap answersOf (whole-cut lineBuffer (omega arith) ss) ∙ kept-answers (linesOf (flatten ss)))

@@ -10,6 +10,7 @@ use Rattle.rules.specs.Print.{digitCount, lastDigits}
 use Rattle.rules.specs.StampTime.{timeOfStamp}
 use Rattle.rules.specs.Examples.{bytes, layoutA, partitionsA, segmentsA}
 
+-- a line under table A
 unfoldable pub lineStamp : List ℕ → Answer TimedStamp
 lineStamp line = timeOfStamp layoutA partitionsA segmentsA line
 

@@ -2,16 +2,16 @@
 use Prim.Native.Nat.{ℕ, _≤_}
 use mathlib.Core.Path.{_≡_}
 use mathlib.Core.Bool.{Bool, true, false}
-use mathlib.Core.List.{List, [], _∷_, _++_}
+use mathlib.Core.List.{List, [], _∷_, _++_, flatten}
 use lib.ListN.{length, take}
 use lib.Seq.{slice}
 use Rattle.rules.specs.Limits.{longestText}
 use Rattle.lines.specs.Lines.{roomFor}
 use Rattle.lines.specs.Steps.{carried, fed, lineLeft, lastLine}
 use Rattle.decimal.specs.Writing.{Written}
-use Rattle.stamp_lines.specs.Output.{answerLine, answersOf}
+use Rattle.stamp_lines.specs.Output.{answerLine, answersOf, outputOf}
 
--- "a line buffer of 97 bytes": room for the longest text, and for one byte more
+-- "a line buffer of 97 bytes": room for the longest text, "At most 96 bytes", and for one byte more
 abbrev pub lineBuffer : ℕ
 lineBuffer = roomFor longestText
 
@@ -23,10 +23,14 @@ pieceAnswers l s = answersOf (fed lineBuffer (carried [] l) s .ended)
 unfoldable pub lastAnswer : List ℕ → List ℕ
 lastAnswer l = answersOf (lastLine l)
 
--- all that is written of an input that comes in these pieces
+-- all that is written of an input that comes in these pieces, where l is kept before them
 unfoldable pub piecesOutput : List ℕ → List (List ℕ) → List ℕ
 piecesOutput l [] = lastAnswer l
 piecesOutput l (s ∷ ss) = pieceAnswers l s ++ piecesOutput (lineLeft lineBuffer l s) ss
+
+-- wherever an input is cut into pieces, its whole output is written
+abbrev pub WholeOutput : Type 0
+WholeOutput = (ss : List (List ℕ)) → piecesOutput [] ss ≡ outputOf (flatten ss)
 
 -- the answer of a line, where it has ended
 unfoldable pub endedAnswer : Bool → List ℕ → List ℕ

@@ -1,5 +1,6 @@
 // The stamp program: stamps from standard input under table A, for each line its encoded count and its time, or `refused` and
-// the number. All but `run` works on slices, and each contract there says which bytes are written.
+// the number. `run`, `write_answers` and `write_last` move bytes by system calls; all else works on slices, and its contracts say
+// every byte.
 ghost use mathlib.Core.Path.{_≡_};
 ghost use mathlib.Core.Bool.{cond};
 ghost use Prim.Native.Nat.{_+_, _≤_, min};
@@ -37,6 +38,7 @@ pub fn run(line: &mut [u8])
     let mut buffer = io::buffer();
     let out: &mut [u8] = &mut buffer;
     let mut kept = 0;
+    // The loop ends with the input; a number of turns that falls shows that it ends at all.
     let mut turns = u64::MAX;
     while turns > 0 {
         let got = libc::read(STDIN_FILENO, &mut chunk);
@@ -89,6 +91,7 @@ pub fn answer_chunk(chunk: &[u8], at: usize, line: &mut [u8], kept: usize, out: 
     ensures { λ r. ⌜ Answered (now (chunk .entry)) at (r .at) (take kept (now (line .entry))) (r .kept) (now (line .exit)) (r .put) (now (out .entry)) (now (out .exit)) ⌝ }
     ensures { λ r. ⌜ min (at + 1) (length (now (chunk .entry))) ≤ r .at ⌝ }
 {
+    // the last place with room for the longest answer
     let last = out.len() - LONGEST_ANSWER;
     let mut i = at;
     let mut held = kept;
