@@ -10,7 +10,9 @@ fn stored(program: &str, name: &str) -> Vec<u8> {
 
 #[test]
 fn stamps() {
-    assert!(stored("stamp", "stdout") == stamp_program(&stored("stamp", "stdin")));
+    for program in ["stamp", "stamp_edges", "stamp_buffers"] {
+        assert!(stored(program, "stdout") == stamp_program(&stored(program, "stdin")), "{}", program);
+    }
 }
 
 /// The script and its answers are typed from document 01.

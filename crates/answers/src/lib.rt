@@ -1,4 +1,4 @@
-// The answers, each a line. They are put behind one another into a buffer: each function `put_..` puts its bytes at `at` as far as
+// The answers to a script's questions, each a line. They are put behind one another into a buffer: each function `put_..` puts its bytes at `at` as far as
 // there is room, and answers the place after them.
 ghost use Rattle.answers.specs.Places.{Put};
 use libc::STDOUT_FILENO;
@@ -7,10 +7,8 @@ use rules::DoubleAnswer;
 use rules::PrintAnswer;
 use rules::ReadAnswer;
 use rules::Refusal;
-use rules::StampAnswer;
 use rules::StepsBackAnswer;
 use rules::TimeAnswer;
-use rules::TimedStamp;
 
 const LINE_END: u8 = b'\n';
 
@@ -100,25 +98,6 @@ pub fn put_print(out: &mut [u8], at: usize, answer: PrintAnswer, lent: &[u8]) ->
         PrintAnswer::Length(length) => put_lent(out, at, b"ok ", length as u64, lent),
         PrintAnswer::Refused(refusal) => put_lent(out, at, b"refused ", refusal.number, lent),
     }
-}
-
-// The encoded count of a stamp and its time, without `ok`.
-pub fn put_stamp(out: &mut [u8], at: usize, answer: StampAnswer) -> usize
-    ensures { λ r. ⌜ Put at (now (out .entry)) r ⌝ }
-{
-    match answer {
-        StampAnswer::Stamp(stamp) => put_timed(out, at, stamp),
-        StampAnswer::Refused(refusal) => put_refused(out, at, refusal),
-    }
-}
-
-fn put_timed(out: &mut [u8], at: usize, stamp: TimedStamp) -> usize
-    ensures { λ r. ⌜ Put at (now (out .entry)) r ⌝ }
-{
-    let mut digits = [0u8; 20];
-    let n = io::decimal(stamp.count, &mut digits);
-    let place = put(out, at, &digits[..n]);
-    put_ordinal(out, place, b" ", signed::ordinal(stamp.time))
 }
 
 fn put_refused(out: &mut [u8], at: usize, refusal: Refusal) -> usize

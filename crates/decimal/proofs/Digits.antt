@@ -43,10 +43,15 @@ digit-count-four x h =
     let sum : d + 3 + 1 ≡ d + 4 = omega arith in
     digit-count-is (d + 3) x (omega (arith, pow-add 10 d 3, digits-needed (x / 10_000) (omega arith))) (rw sum (omega (arith, pow-add 10 d 4, digits-enough (x / 10_000)))) ∙ sum
 
+-- a number below a power of ten
+pub digit-count-below : (k x : ℕ) → 0 < k → x < 10 ^ k → digitCount x ≤ k
+digit-count-below k zero p h = rw digit-count-zero (omega arith)
+digit-count-below k (suc x) p h =
+    let l : digitCount (suc x) < k + 1 = pow-order (digitCount (suc x)) (k + 1) (omega (arith, pow-add 10 k 1, digits-needed (suc x) (omega arith))) in omega arith
+
 -- a 64-bit number has at most 20 digits
 pub digit-count-word : (x : ℕ) → x < 2 ^ 64 → digitCount x ≤ 20
-digit-count-word zero h = rw digit-count-zero (omega arith)
-digit-count-word (suc x) h = let l : digitCount (suc x) < 21 = pow-order (digitCount (suc x)) 21 (omega (arith, digits-needed (suc x) (omega arith))) in omega arith
+digit-count-word x h = digit-count-below 20 x (omega arith) (omega arith)
 
 pub last-digits-length : (w x : ℕ) → length (lastDigits w x) ≡ w
 unfolding lastDigits

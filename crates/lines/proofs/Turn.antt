@@ -15,7 +15,7 @@ use Rattle.lines.specs.Steps.{Carried, carried, withNext, fed, lineLeft,
 use Rattle.lines.proofs.Whole.{fed-join, next-end, next-byte, kept-again, kept-all, kept-fits}
 
 -- the bytes that a step takes, fed
-step-fed :
+pub step-fed :
     (room : ℕ) (ls : List (List ℕ)) (l bs : List ℕ)
     → length l ≤ room
     → fed room (carried ls l) (take (takenIn bs) bs) ≡ carriedOn ls (endsIn bs) (keptWith room l bs)
@@ -39,9 +39,20 @@ unfolding fed
 same-left room c d [] e = e
 same-left room c d (b ∷ bs) e = same-left room (withNext room c b) (withNext room d b) bs (same-next room c d b e)
 
-left-alone : (room : ℕ) (ls : List (List ℕ)) (l bs : List ℕ) → fed room (carried ls l) bs .line ≡ lineLeft room l bs
+pub left-alone : (room : ℕ) (ls : List (List ℕ)) (l bs : List ℕ) → fed room (carried ls l) bs .line ≡ lineLeft room l bs
 unfolding lineLeft carried
 left-alone room ls l bs = same-left room (carried ls l) (carried [] l) bs refl
+
+-- the lines that had ended before stay in front
+pub ended-after : (room : ℕ) (ls : List (List ℕ)) (l bs : List ℕ) → fed room (carried ls l) bs .ended ≡ ls ++ fed room (carried [] l) bs .ended
+unfolding fed carried
+ended-after room ls l [] = sym (append-nil ls)
+ended-after room ls l (b ∷ bs) =
+    by-test (eqb b lineEnd)
+    (λ t. ap (λ c. fed room c bs .ended) (next-end room ls l b t)
+    ∙ (ended-after room (ls ++ (l ∷ [])) [] bs ∙ rw (append-assoc) (ap (λ (x : List (List ℕ)). ls ++ x) (sym (ended-after room (l ∷ []) [] bs) ∙ sym (ap (λ c. fed room c bs .ended) (next-end room [] l b t))))))
+    (λ f. ap (λ c. fed room c bs .ended) (next-byte room ls l b f)
+    ∙ (ended-after room ls (keptOf room (l ++ (b ∷ []))) bs ∙ ap (λ (x : List (List ℕ)). ls ++ x) (sym (ap (λ c. fed room c bs .ended) (next-byte room [] l b f)))))
 
 settled :
     (room : ℕ) (ls : List (List ℕ)) (e : Bool) (k : ℕ) (l bs : List ℕ)

@@ -1,0 +1,41 @@
+-- Document 01's lines and its output, and the ends of an input.
+use Prim.Native.Nat.{ℕ}
+use mathlib.Core.Path.{_≡_, refl}
+use mathlib.Core.List.{List, [], _∷_, _++_, map, flatten}
+use lib.ListN.{replicate}
+use Rattle.rules.specs.Computing.{computing}
+use Rattle.rules.specs.Examples.{bytes, layoutA, partitionsA, segmentsA}
+use Rattle.lines.specs.Lines.{linesOf, withByte}
+use Rattle.stamp_lines.specs.Output.{lineStamp, decimalOf, timeBytes, stampBytes, answerLine, answersOf, outputOf}
+use Rattle.stamp_lines.specs.Pieces.{lineBuffer}
+
+-- some lines, each ended by byte 10
+unfoldable pub endedLines : List (List ℕ) → List ℕ
+endedLines [] = []
+endedLines (l ∷ ls) = l ++ (10 ∷ endedLines ls)
+
+pub record Case : Type 0 where
+  pub input : List ℕ
+  pub expected : List ℕ
+
+unfoldable pub case : List ℕ → List ℕ → Case
+case i o = record { input = i; expected = o }
+
+unfoldable pub cases : List Case
+cases =
+    -- "For the lines `1/0.1`, `50.1`, `1/50.1` its whole output is"
+    case (endedLines (bytes "1/0.1" ∷ bytes "50.1" ∷ bytes "1/50.1" ∷ [])) (endedLines (bytes "1 -997" ∷ bytes "801 1603" ∷ bytes "refused 11" ∷ []))
+    -- no input
+    ∷ case [] []
+    -- a last line without byte 10
+    ∷ case (endedLines (bytes "1/0.1" ∷ []) ++ bytes "50.1") (endedLines (bytes "1 -997" ∷ bytes "801 1603" ∷ []))
+    -- the longest line, one byte more, and an empty line
+    ∷ case (endedLines (replicate 96 48 ∷ replicate 97 48 ∷ [] ∷ [])) (endedLines (bytes "0 -1000" ∷ bytes "refused 4" ∷ bytes "refused 6" ∷ []))
+    ∷ []
+
+pub cases-hold : map (λ c. outputOf (c .input)) cases ≡ map (λ c. c .expected) cases
+unfolding computing bytes layoutA partitionsA segmentsA linesOf withByte flatten lineStamp decimalOf timeBytes stampBytes answerLine answersOf outputOf endedLines case cases
+cases-hold = refl
+
+pub line-buffer : lineBuffer ≡ 97
+line-buffer = refl

@@ -1,0 +1,48 @@
+-- "The stamp program holds table A, reads lines (up to byte 10 or the end of input) from standard input .. and prints encoded
+-- count and time, or `refused` and the number."
+use Prim.Native.Nat.{ℕ, _+_}
+use mathlib.Core.List.{List, [], _∷_, _++_, map, flatten}
+use lib.IntN.{ℤ, pos, negsuc}
+use Rattle.lines.specs.Lines.{lineEnd, linesOf}
+use Rattle.rules.specs.declared.TimedStamp.{TimedStamp}
+use Rattle.rules.specs.Answer.{Answer, answer, refused}
+use Rattle.rules.specs.Print.{digitCount, lastDigits}
+use Rattle.rules.specs.StampTime.{timeOfStamp}
+use Rattle.rules.specs.Examples.{bytes, layoutA, partitionsA, segmentsA}
+
+-- a line under table A
+unfoldable pub lineStamp : List ℕ → Answer TimedStamp
+lineStamp line = timeOfStamp layoutA partitionsA segmentsA line
+
+-- a number in decimal digits
+unfoldable pub decimalOf : ℕ → List ℕ
+decimalOf x = lastDigits (digitCount x) x
+
+-- a time, with `-` in front where it is negative
+unfoldable pub timeBytes : ℤ → List ℕ
+timeBytes (pos n) = decimalOf n
+timeBytes (negsuc n) = 45 ∷ decimalOf (n + 1)
+
+-- an answer, a blank between its numbers, and the byte that ends its line
+unfoldable pub stampBytes : Answer TimedStamp → List ℕ
+stampBytes (answer s) = decimalOf (s .count) ++ (32 ∷ (timeBytes (s .time) ++ (lineEnd ∷ [])))
+stampBytes (refused k) = bytes "refused " ++ (decimalOf (k .number) ++ (lineEnd ∷ []))
+
+unfoldable pub answerLine : List ℕ → List ℕ
+answerLine line = stampBytes (lineStamp line)
+
+-- the answers of some lines, behind one another
+unfoldable pub answersOf : List (List ℕ) → List ℕ
+answersOf ls = flatten (map answerLine ls)
+
+-- "its whole output"
+unfoldable pub outputOf : List ℕ → List ℕ
+outputOf input = answersOf (linesOf input)
+
+-- the most bytes of a 64-bit number: 20 digits, or `-` and 19
+abbrev pub longestNumber : ℕ
+longestNumber = 20
+
+-- the most bytes of an answer: two numbers, the blank and byte 10
+abbrev pub longestAnswer : ℕ
+longestAnswer = longestNumber + 1 + longestNumber + 1
