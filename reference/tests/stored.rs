@@ -10,7 +10,7 @@ fn stored(program: &str, name: &str) -> Vec<u8> {
 
 #[test]
 fn stamps() {
-    for program in ["stamp", "stamp_edges", "stamp_buffers"] {
+    for program in ["stamp", "stamp_edges", "stamp_buffers", "stamp_last"] {
         assert!(stored(program, "stdout") == stamp_program(&stored(program, "stdin")), "{}", program);
     }
 }

@@ -2,11 +2,13 @@
 use Prim.Native.Nat.{ℕ}
 use mathlib.Core.Path.{_≡_, refl}
 use mathlib.Core.List.{List, [], _∷_, _++_, map, flatten}
-use lib.ListN.{replicate}
+use lib.IntN.{negsuc}
+use lib.ListN.{length, replicate}
+use Rattle.rules.specs.Answer.{answer, timedStamp}
 use Rattle.rules.specs.Computing.{computing}
 use Rattle.rules.specs.Examples.{bytes, layoutA, partitionsA, segmentsA}
 use Rattle.lines.specs.Lines.{linesOf, withByte}
-use Rattle.stamp_lines.specs.Output.{lineStamp, decimalOf, timeBytes, stampBytes, answerLine, answersOf, outputOf}
+use Rattle.stamp_lines.specs.Output.{lineStamp, decimalOf, timeBytes, stampBytes, answerLine, answersOf, outputOf, longestAnswer}
 use Rattle.stamp_lines.specs.Pieces.{lineBuffer}
 
 -- some lines, each ended by byte 10
@@ -36,6 +38,11 @@ cases =
 pub cases-hold : map (λ c. outputOf (c .input)) cases ≡ map (λ c. c .expected) cases
 unfolding computing bytes layoutA partitionsA segmentsA linesOf withByte flatten lineStamp decimalOf timeBytes stampBytes answerLine answersOf outputOf endedLines case cases
 cases-hold = refl
+
+-- the largest 64-bit count and the least 64-bit time
+pub longest-reached : length (stampBytes (answer (timedStamp 18_446_744_073_709_551_615 (negsuc 9_223_372_036_854_775_807)))) ≡ longestAnswer
+unfolding computing stampBytes decimalOf timeBytes
+longest-reached = refl
 
 pub line-buffer : lineBuffer ≡ 97
 line-buffer = refl
