@@ -4,9 +4,7 @@ use mathlib.Core.Path.{_≡_, refl}
 use mathlib.Core.List.{List, [], _∷_, _++_, map}
 use lib.IntN.{pos, negsuc}
 use lib.ListN.{replicate}
-use Rattle.rules.specs.declared.Layout.{Layout}
 use Rattle.rules.specs.Answer.{refuse}
-use Rattle.rules.specs.Partitions.{Partitions, partitions}
 use Rattle.rules.specs.Segments.{Segments, segments}
 use Rattle.rules.specs.Text.{readText}
 use Rattle.rules.specs.Stamp.{readStamp}
@@ -16,6 +14,7 @@ use Rattle.rules.specs.Time.{timeOf, countAt, stepsBackIn}
 use Rattle.rules.specs.StampTime.{timeOfStamp, timeOfMessage}
 use Rattle.rules.specs.Computing.{computing}
 use Rattle.rules.specs.Examples.{bytes, layoutA, partitionsA, segmentsA, layoutB}
+use Rattle.rules.specs.CallEdges.{noLayout, noPartitions, noSegments}
 use Rattle.outcomes.specs.Refusals.{
   textRefusals,
   stampRefusals,
@@ -28,16 +27,6 @@ use Rattle.outcomes.specs.Refusals.{
   timeOfMessageRefusals,
   stepsBackRefusals,
 }
-
--- a layout without fields; no partitions; no segments
-unfoldable pub noLayout : Layout
-noLayout = record { n = 0; moduli = []; offsets = []; delimiter = 1 }
-
-unfoldable pub noPartitions : Partitions
-noPartitions = partitions [] []
-
-unfoldable pub noSegments : Segments
-noSegments = segments [] [] []
 
 -- the first segment at count 1
 unfoldable pub lateSegments : Segments

@@ -84,6 +84,11 @@ cases =
     ∷ case (forward (segment (double 0) (double 0) (inf false)) 1 0) (refuse 15)
     ∷ case (back zeros 1 nan) (refuse 15)
     ∷ case (back zeros 1 (inf false)) (refuse 15)
+    ∷ case (back zeros 1 (inf true)) (refuse 15)
+    ∷ case (back (segment (inf true) (double 0) (double 1)) 1 (double 0)) (refuse 15)
+    ∷ case (back (segment (inf false) (double 0) (double 1)) 1 (double 0)) (refuse 15)
+    ∷ case (back (segment (double 0) (inf true) (double 1)) 1 (double 0)) (refuse 15)
+    ∷ case (back (segment (double 0) (double 0) (inf false)) 1 (double 0)) (refuse 15)
     -- the rate
     ∷ case (forward (segment (double 0) (double 0) (double 0)) 1 0) (refuse 15)
     ∷ case (back (segment (double 0) (double 0) (neg (double 0))) 1 (double 0)) (refuse 15)
