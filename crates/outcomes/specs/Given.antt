@@ -1,9 +1,11 @@
 -- Each refusal of each set is given by some input.
 use Prim.Native.Nat.{ℕ}
 use mathlib.Core.Path.{_≡_, refl}
+use mathlib.Core.Bool.{true, false}
 use mathlib.Core.List.{List, [], _∷_, _++_, map}
 use lib.IntN.{pos, negsuc}
 use lib.ListN.{replicate}
+use Rattle.base.specs.Scans.{among}
 use Rattle.rules.specs.Answer.{refuse}
 use Rattle.rules.specs.Segments.{Segments, segments}
 use Rattle.rules.specs.Text.{readText}
@@ -77,3 +79,10 @@ pub refusals-given :
     ≡ map refuse stepsBackRefusals)
 unfolding computing bytes layoutA partitionsA segmentsA layoutB textRefusals stampRefusals messageRefusals printCountRefusals printStampRefusals timeOfRefusals countAtRefusals timeOfStampRefusals timeOfMessageRefusals stepsBackRefusals noLayout noPartitions noSegments lateSegments tooLong message
 refusals-given = (refl, refl, refl, refl, refl, refl, refl, refl, refl, refl)
+
+-- being in a set tells its numbers from others
+pub in-a-set :
+    (among 1 (1 ∷ 9 ∷ 16 ∷ []) ∷ among 9 (1 ∷ 9 ∷ 16 ∷ []) ∷ among 16 (1 ∷ 9 ∷ 16 ∷ []) ∷ among 0 (1 ∷ 9 ∷ 16 ∷ []) ∷ among 10 (1 ∷ 9 ∷ 16 ∷ []) ∷ among 17 (1 ∷ 9 ∷ 16 ∷ []) ∷ among 1 [] ∷ [])
+    ≡ (true ∷ true ∷ true ∷ false ∷ false ∷ false ∷ false ∷ [])
+unfolding among
+in-a-set = refl

@@ -6,7 +6,7 @@ use mathlib.Core.Path.{_≡_, refl}
 use mathlib.Core.Bool.{Bool, true, false, cond}
 use mathlib.Core.List.{List, [], _∷_, _++_, map}
 use lib.IntN.{pos, negsuc}
-use lib.Ieee.{nan}
+use lib.Ieee.{nan, inf}
 use lib.ListN.{length, replicate}
 use Rattle.rules.specs.declared.Layout.{Layout}
 use Rattle.rules.specs.declared.Reading.{Reading}
@@ -79,12 +79,12 @@ long =
       delimiter = 1;
     }
 
--- moduli 100, 1
-unfoldable pub ones : Layout
-ones =
+-- two fields of these moduli
+unfoldable pub two : ℕ → ℕ → Layout
+two m k =
     record {
       n = 2;
-      moduli = 100 ∷ 1 ∷ 0 ∷ 0 ∷ 0 ∷ 0 ∷ 0 ∷ 0 ∷ 0 ∷ 0 ∷ [];
+      moduli = m ∷ k ∷ 0 ∷ 0 ∷ 0 ∷ 0 ∷ 0 ∷ 0 ∷ 0 ∷ 0 ∷ [];
       offsets = 0 ∷ 0 ∷ 0 ∷ 0 ∷ 0 ∷ 0 ∷ 0 ∷ 0 ∷ 0 ∷ 0 ∷ [];
       delimiter = 1;
     }
@@ -108,11 +108,12 @@ pub fields-edges :
 unfolding computing digitsIn bytes
 fields-edges = refl
 
--- the bytes below n that may stand after a `1`
+-- whether a text is read
 unfoldable pub isRead : Answer Reading → Bool
 isRead (answer r) = true
 isRead (refused k) = false
 
+-- the bytes below n that may stand after a `1`
 unfoldable pub bytesRead : ℕ → List ℕ
 bytesRead zero = []
 bytesRead (suc n) = bytesRead n ++ cond (isRead (readText layoutA (49 ∷ n ∷ []))) (n ∷ []) []
@@ -150,15 +151,15 @@ pub trailer : textLength (1 ∷ 5 ∷ []) ≡ 261
 unfolding textLength
 trailer = refl
 
--- bytes of 7 are lent: the print, the rest untouched; a refusal leaves all
+-- bytes of 7 are lent: the print, the rest untouched; a refusal leaves all. The width is that of modulus - 1: of 0, 9, 10, 99 and 100
 pub print-edges :
     (countBuffer (tens 0 1) 123 (replicate 5 7) ∷ countBuffer (tens 0 2) 123 (replicate 5 7) ∷ countBuffer (tens 0 3) 123 (replicate 5 7)
     ∷ countBuffer (tens 0 4) 123 (replicate 5 7) ∷ countBuffer (tens 0 5) 123 (replicate 5 7) ∷ countBuffer (tens 1 1) 129 (replicate 5 7)
-    ∷ countBuffer ones 3 (replicate 5 7) ∷ countBuffer layoutA 123 (replicate 4 7) ∷ countBuffer layoutA 123 (replicate 3 7) ∷ countBuffer layoutA 999 (replicate 5 7)
+    ∷ countBuffer (two 100 1) 3 (replicate 5 7) ∷ countBuffer (two 101 11) 58 (replicate 6 7) ∷ countBuffer layoutA 123 (replicate 4 7) ∷ countBuffer layoutA 123 (replicate 3 7) ∷ countBuffer layoutA 999 (replicate 5 7)
     ∷ countBuffer layoutA 1_000 (replicate 5 7) ∷ [])
     ≡ ((bytes "12.3" ++ (7 ∷ [])) ∷ (bytes "12:3" ++ (7 ∷ [])) ∷ (bytes "12-3" ++ (7 ∷ [])) ∷ (bytes "12,3" ++ (7 ∷ [])) ∷ (bytes "12 3" ++ (7 ∷ []))
-    ∷ bytes "12.10" ∷ (bytes "03.0" ++ (7 ∷ [])) ∷ bytes "12.3" ∷ replicate 3 7 ∷ (bytes "99.9" ++ (7 ∷ [])) ∷ replicate 5 7 ∷ [])
-unfolding computing countBuffer bytes tens ones layoutA
+    ∷ bytes "12.10" ∷ (bytes "03.0" ++ (7 ∷ [])) ∷ bytes "005.03" ∷ bytes "12.3" ∷ replicate 3 7 ∷ (bytes "99.9" ++ (7 ∷ [])) ∷ replicate 5 7 ∷ [])
+unfolding computing countBuffer bytes tens two layoutA
 print-edges = refl
 
 -- table A's partitions 0..500 and 200..900 from their starts to their ends; a buffer as long as the print, and one byte less
@@ -191,6 +192,13 @@ pub time-edges :
     ≡ (answer (timeOfCount (negsuc 999)) ∷ answer (timeOfCount (pos 498)) ∷ answer (timeOfCount (pos 1_000)) ∷ answer (timeOfCount (pos 2_800)) ∷ refuse 12 ∷ [])
 unfolding computing layoutA partitionsA segmentsA
 time-edges = refl
+
+-- a tick of 1.0001 ns, and one of 1 ns: rounded up, and exact
+pub rounded-edges :
+    (timeOf layoutA partitionsA (segments (0 ∷ []) (pos 0 ∷ []) (10_001 ∷ [])) 1 ∷ timeOf layoutA partitionsA (segments (0 ∷ []) (pos 0 ∷ []) (10_000 ∷ [])) 1 ∷ [])
+    ≡ (answer (timeOfCount (pos 2)) ∷ answer (timeOfCount (pos 1)) ∷ [])
+unfolding computing layoutA partitionsA
+rounded-edges = refl
 
 -- one segment from the earliest time on; one that reaches the latest time at the total
 unfoldable pub early : Segments
@@ -241,17 +249,22 @@ stamp-time-edges = refl
 
 -- What the numbers of a refusal and of a value are.
 pub numbers-mean :
-    ((numbered 15 .number ∷ reading 5 .count ∷ countAtTime 6 .count ∷ timedStamp 7 (negsuc 8) .count ∷ []) ≡ (15 ∷ 5 ∷ 6 ∷ 7 ∷ []))
-    × ((timeOfCount (negsuc 6) .time ∷ timedStamp 7 (negsuc 8) .time ∷ []) ≡ (negsuc 6 ∷ negsuc 8 ∷ []))
+    ((numbered 14 .number ∷ numbered 15 .number ∷ reading 5 .count ∷ reading 6 .count ∷ countAtTime 5 .count ∷ countAtTime 6 .count ∷ timedStamp 5 (pos 7) .count ∷ timedStamp 6 (negsuc 8) .count ∷ [])
+    ≡ (14 ∷ 15 ∷ 5 ∷ 6 ∷ 5 ∷ 6 ∷ 5 ∷ 6 ∷ []))
+    × ((timeOfCount (pos 5) .time ∷ timeOfCount (negsuc 6) .time ∷ timedStamp 5 (pos 7) .time ∷ timedStamp 6 (negsuc 8) .time ∷ []) ≡ (pos 5 ∷ negsuc 6 ∷ pos 7 ∷ negsuc 8 ∷ []))
 numbers-mean = (refl, refl)
 
--- What each case of the code's answers means: its value, or the refusal of its number.
+-- What each case of the code's answers means: its own value, or the refusal of its own number, whichever that is.
 pub answers-mean :
-    ((readAnswer (Reads.Read (reading 5)) ∷ readAnswer (Reads.Refused (numbered 4)) ∷ []) ≡ (answer (reading 5) ∷ refuse 4 ∷ []))
-    × ((timeAnswer (Times.Time (timeOfCount (negsuc 6))) ∷ timeAnswer (Times.Refused (numbered 12)) ∷ []) ≡ (answer (timeOfCount (negsuc 6)) ∷ refuse 12 ∷ []))
-    × ((countAnswer (Counts.Count (countAtTime 5)) ∷ countAnswer (Counts.Refused (numbered 14)) ∷ []) ≡ (answer (countAtTime 5) ∷ refuse 14 ∷ []))
-    × ((stampAnswer (Stamps.Stamp (timedStamp 5 (negsuc 6))) ∷ stampAnswer (Stamps.Refused (numbered 11)) ∷ []) ≡ (answer (timedStamp 5 (negsuc 6)) ∷ refuse 11 ∷ []))
-    × ((printAnswer (Prints.Length 5) ∷ printAnswer (Prints.Refused (numbered 16)) ∷ []) ≡ (answer 5 ∷ refuse 16 ∷ []))
-    × ((stepsBackAnswer Steps.Yes ∷ stepsBackAnswer Steps.No ∷ stepsBackAnswer (Steps.Refused (numbered 3)) ∷ []) ≡ (answer true ∷ answer false ∷ refuse 3 ∷ []))
-    × ((doubleAnswer (Doubles.Double nan) ∷ doubleAnswer (Doubles.Refused (numbered 15)) ∷ []) ≡ (answer nan ∷ refuse 15 ∷ []))
+    (map readAnswer (Reads.Read (reading 5) ∷ Reads.Read (reading 6) ∷ Reads.Refused (numbered 4) ∷ Reads.Refused (numbered 12) ∷ [])
+    ≡ (answer (reading 5) ∷ answer (reading 6) ∷ refuse 4 ∷ refuse 12 ∷ []))
+    × (map timeAnswer (Times.Time (timeOfCount (pos 5)) ∷ Times.Time (timeOfCount (negsuc 6)) ∷ Times.Refused (numbered 4) ∷ Times.Refused (numbered 12) ∷ [])
+    ≡ (answer (timeOfCount (pos 5)) ∷ answer (timeOfCount (negsuc 6)) ∷ refuse 4 ∷ refuse 12 ∷ []))
+    × (map countAnswer (Counts.Count (countAtTime 5) ∷ Counts.Count (countAtTime 6) ∷ Counts.Refused (numbered 13) ∷ Counts.Refused (numbered 14) ∷ [])
+    ≡ (answer (countAtTime 5) ∷ answer (countAtTime 6) ∷ refuse 13 ∷ refuse 14 ∷ []))
+    × (map stampAnswer (Stamps.Stamp (timedStamp 5 (pos 7)) ∷ Stamps.Stamp (timedStamp 6 (negsuc 8)) ∷ Stamps.Refused (numbered 3) ∷ Stamps.Refused (numbered 11) ∷ [])
+    ≡ (answer (timedStamp 5 (pos 7)) ∷ answer (timedStamp 6 (negsuc 8)) ∷ refuse 3 ∷ refuse 11 ∷ []))
+    × (map printAnswer (Prints.Length 5 ∷ Prints.Length 6 ∷ Prints.Refused (numbered 12) ∷ Prints.Refused (numbered 16) ∷ []) ≡ (answer 5 ∷ answer 6 ∷ refuse 12 ∷ refuse 16 ∷ []))
+    × (map stepsBackAnswer (Steps.Yes ∷ Steps.No ∷ Steps.Refused (numbered 2) ∷ Steps.Refused (numbered 3) ∷ []) ≡ (answer true ∷ answer false ∷ refuse 2 ∷ refuse 3 ∷ []))
+    × (map doubleAnswer (Doubles.Double nan ∷ Doubles.Double (inf true) ∷ Doubles.Refused (numbered 14) ∷ Doubles.Refused (numbered 15) ∷ []) ≡ (answer nan ∷ answer (inf true) ∷ refuse 14 ∷ refuse 15 ∷ []))
 answers-mean = (refl, refl, refl, refl, refl, refl, refl)

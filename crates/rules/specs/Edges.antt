@@ -8,7 +8,6 @@ use lib.IntN.{ℤ, pos, negsuc}
 use lib.ListN.{replicate, length, take}
 use Rattle.base.specs.Scans.{sumBelow}
 use Rattle.rules.specs.declared.Layout.{Layout}
-use Rattle.rules.specs.Limits.{mostFields}
 use Rattle.rules.specs.Answer.{Answer, answer, refuse}
 use Rattle.rules.specs.Partitions.{Partitions, partitions, totalOf, lengthsBefore}
 use Rattle.rules.specs.Segments.{Segments, segments}
@@ -18,7 +17,7 @@ use Rattle.rules.specs.Examples.{layoutA, partitionsA, segmentsA}
 
 -- ten slots, the given numbers first and 0 after them
 slots : List ℕ → List ℕ
-slots xs = take mostFields (xs ++ replicate mostFields 0)
+slots xs = take 10 (xs ++ replicate 10 0)
 
 layout : ℕ → List ℕ → List ℕ → ℕ → Layout
 layout n ms os d = record { n = n; moduli = slots ms; offsets = slots os; delimiter = d }
@@ -106,6 +105,7 @@ edges =
     ∷ layoutEdge (layout 1 (100 ∷ 10 ∷ []) [] 1) grows
     ∷ layoutEdge (layout 10 (2 ∷ 2 ∷ 2 ∷ 2 ∷ 2 ∷ 2 ∷ 2 ∷ 2 ∷ 2 ∷ 2 ∷ []) [] 1) grows
     ∷ layoutEdge (layout 11 (2 ∷ 2 ∷ 2 ∷ 2 ∷ 2 ∷ 2 ∷ 2 ∷ 2 ∷ 2 ∷ 2 ∷ []) [] 1) (refuse 1)
+    ∷ layoutEdge (record { n = 11; moduli = replicate 11 2; offsets = replicate 11 0; delimiter = 1 }) (refuse 1)
     -- a modulus, an offset; slots after the n-th are not looked at
     ∷ layoutEdge (moduli (100 ∷ 0 ∷ [])) (refuse 1)
     ∷ layoutEdge (moduli (100 ∷ 1 ∷ [])) grows
