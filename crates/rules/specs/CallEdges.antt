@@ -125,6 +125,7 @@ pub allowed-bytes :
 unfolding computing layoutA isRead bytesRead
 allowed-bytes = refl
 
+-- counted
 pub allowed-number : length (bytesRead 256) ≡ 15
 unfolding computing layoutA isRead bytesRead
 allowed-number = refl
@@ -147,6 +148,7 @@ pub message-edges :
 unfolding computing bytes layoutA partitionsA message
 message-edges = refl
 
+-- 256 times the high byte and the low byte
 pub trailer : textLength (1 ∷ 5 ∷ []) ≡ 261
 unfolding textLength
 trailer = refl
@@ -207,7 +209,8 @@ early = segments (0 ∷ []) (negsuc (4 * 10 ^ 18 - 1) ∷ []) (10_000 ∷ [])
 unfoldable pub late : Segments
 late = segments (0 ∷ []) (pos (4 * 10 ^ 18 - 3_000) ∷ []) (25_000 ∷ [])
 
--- T at ±4×10^18 and one beyond, where it is the range that refuses, not the answer nor a segment before it
+-- T one below -4×10^18 and at it, at 4×10^18 and one above, where the line would still answer 1,200; within the range a time before the
+-- first segment is refused 13, and one whose answer is above the total 14
 pub range-edges :
     (countAt layoutA partitionsA early (negsuc (4 * 10 ^ 18)) ∷ countAt layoutA partitionsA early (negsuc (4 * 10 ^ 18 - 1)) ∷ countAt layoutA partitionsA segmentsA (negsuc (4 * 10 ^ 18 - 1))
     ∷ countAt layoutA partitionsA early (pos (4 * 10 ^ 18)) ∷ countAt layoutA partitionsA late (pos (4 * 10 ^ 18)) ∷ countAt layoutA partitionsA late (pos (4 * 10 ^ 18 + 1)) ∷ [])
