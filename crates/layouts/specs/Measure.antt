@@ -25,6 +25,6 @@ pub record UnitFacts (unit : ℕ) : Type 0 where
   pub low : 1 ≤ unit
   pub high : unit ≤ largestUnit
 
--- whatever the layout was
+-- what a measure says of its unit, whatever the layout was; a refused one has none
 pub record InLimits (r : MeasureAnswer) : Type 0 where
   pub unit : (m : Measured) → r ≡ Of.Accepted m → UnitFacts (m .unit)

@@ -1,12 +1,12 @@
 -- Each refusal of each set is given by some input.
 use Prim.Native.Nat.{ℕ}
 use mathlib.Core.Path.{_≡_, refl}
+use mathlib.Core.Bool.{true, false}
 use mathlib.Core.List.{List, [], _∷_, _++_, map}
 use lib.IntN.{pos, negsuc}
 use lib.ListN.{replicate}
-use Rattle.rules.specs.declared.Layout.{Layout}
+use Rattle.base.specs.Scans.{among}
 use Rattle.rules.specs.Answer.{refuse}
-use Rattle.rules.specs.Partitions.{Partitions, partitions}
 use Rattle.rules.specs.Segments.{Segments, segments}
 use Rattle.rules.specs.Text.{readText}
 use Rattle.rules.specs.Stamp.{readStamp}
@@ -16,6 +16,7 @@ use Rattle.rules.specs.Time.{timeOf, countAt, stepsBackIn}
 use Rattle.rules.specs.StampTime.{timeOfStamp, timeOfMessage}
 use Rattle.rules.specs.Computing.{computing}
 use Rattle.rules.specs.Examples.{bytes, layoutA, partitionsA, segmentsA, layoutB}
+use Rattle.rules.specs.CallEdges.{noLayout, noPartitions, noSegments}
 use Rattle.outcomes.specs.Refusals.{
   textRefusals,
   stampRefusals,
@@ -28,16 +29,6 @@ use Rattle.outcomes.specs.Refusals.{
   timeOfMessageRefusals,
   stepsBackRefusals,
 }
-
--- a layout without fields; no partitions; no segments
-unfoldable pub noLayout : Layout
-noLayout = record { n = 0; moduli = []; offsets = []; delimiter = 1 }
-
-unfoldable pub noPartitions : Partitions
-noPartitions = partitions [] []
-
-unfoldable pub noSegments : Segments
-noSegments = segments [] [] []
 
 -- the first segment at count 1
 unfoldable pub lateSegments : Segments
@@ -88,3 +79,10 @@ pub refusals-given :
     ≡ map refuse stepsBackRefusals)
 unfolding computing bytes layoutA partitionsA segmentsA layoutB textRefusals stampRefusals messageRefusals printCountRefusals printStampRefusals timeOfRefusals countAtRefusals timeOfStampRefusals timeOfMessageRefusals stepsBackRefusals noLayout noPartitions noSegments lateSegments tooLong message
 refusals-given = (refl, refl, refl, refl, refl, refl, refl, refl, refl, refl)
+
+-- being in a set tells its numbers from others
+pub in-a-set :
+    (among 1 (1 ∷ 9 ∷ 16 ∷ []) ∷ among 9 (1 ∷ 9 ∷ 16 ∷ []) ∷ among 16 (1 ∷ 9 ∷ 16 ∷ []) ∷ among 0 (1 ∷ 9 ∷ 16 ∷ []) ∷ among 10 (1 ∷ 9 ∷ 16 ∷ []) ∷ among 17 (1 ∷ 9 ∷ 16 ∷ []) ∷ among 1 [] ∷ [])
+    ≡ (true ∷ true ∷ true ∷ false ∷ false ∷ false ∷ false ∷ [])
+unfolding among
+in-a-set = refl

@@ -7,12 +7,13 @@ use lib.ListN.{replicate}
 use Rattle.rules.specs.declared.Layout.{Layout}
 use Rattle.rules.specs.declared.Reading.{Reading}
 use Rattle.rules.specs.Answer.{Answer, answer, refuse, reading}
-use Rattle.rules.specs.Partitions.{Partitions, partitions}
+use Rattle.rules.specs.Partitions.{Partitions}
 use Rattle.rules.specs.Text.{readText}
 use Rattle.rules.specs.Stamp.{readStamp}
 use Rattle.rules.specs.Message.{readMessage}
 use Rattle.rules.specs.Computing.{computing}
 use Rattle.rules.specs.Examples.{bytes, layoutA, partitionsA, layoutB}
+use Rattle.rules.specs.CallEdges.{noLayout, noPartitions}
 
 pub data ToRead : Type 0 where
   text : Layout → List ℕ → ToRead
@@ -57,19 +58,15 @@ one = layout 1 (100 ∷ []) (0 ∷ [])
 three : Layout
 three = layout 3 (100 ∷ 10 ∷ 10 ∷ []) (0 ∷ 0 ∷ 0 ∷ [])
 
--- the second offset is 1; the one offset is the largest
+-- the second offset is 1; the first is; the one offset is the largest
 offsetOne : Layout
 offsetOne = layout 2 (100 ∷ 10 ∷ []) (0 ∷ 1 ∷ [])
 
+firstOne : Layout
+firstOne = layout 2 (100 ∷ 10 ∷ []) (1 ∷ 0 ∷ [])
+
 far : Layout
 far = layout 1 ((10 ^ 15) ∷ []) (1_000 ∷ [])
-
--- a layout and partitions that are not accepted
-noLayout : Layout
-noLayout = layout 1 (0 ∷ []) (0 ∷ [])
-
-noPartitions : Partitions
-noPartitions = partitions [] []
 
 nines : ℕ → List ℕ
 nines k = replicate k 57
@@ -88,16 +85,19 @@ readings =
     ∷ bytesA (zeros 93 ++ bytes "5.3") (readsAs 53)
     ∷ bytesA (zeros 94 ++ bytes "5.3") (refuse 4)
     ∷ bytesA (blanks 97) (refuse 4)
+    ∷ bytesA (blanks 96 ++ bytes "x") (refuse 4)
+    ∷ bytesA (blanks 95 ++ bytes "x") (refuse 5)
     ∷ bytesA (bytes "5.3" ++ (9 ∷ [])) (refuse 5)
     ∷ bytesA (bytes "5.3" ++ (13 ∷ [])) (refuse 5)
     ∷ bytesA (bytes "5.3" ++ (0 ∷ [])) (refuse 5)
     ∷ bytesA (bytes "5.3" ++ (32 ∷ [])) (readsAs 53)
-    -- a trailing mark opens one more, empty field; 7 before 6
+    -- a trailing mark opens one more, empty field; 5 before 7, 7 before 6
     ∷ textA "12.3" (readsAs 123)
     ∷ textA "12" (readsAs 120)
     ∷ textA "12." (readsAs 120)
     ∷ textA "12.." (refuse 7)
     ∷ under one "5." (refuse 7)
+    ∷ textA "..x" (refuse 5)
     ∷ textA ".." (refuse 7)
     ∷ textA "." (refuse 6)
     ∷ textA "" (refuse 6)
@@ -124,9 +124,13 @@ readings =
     -- a sum of 10^15, and one more
     ∷ textA "99999999999999.10" (readsAs (10 ^ 15))
     ∷ textA "99999999999999.11" (refuse 9)
-    -- the sum's 9 comes after every field; 9 before 8 in each field
-    ∷ under offsetOne "999999999999999.0" (refuse 8)
+    -- 7 and 6 before a field's 9 and 8; fields left to right; the sum's 9 comes after every field
+    ∷ textA "1.2.9999999999999999" (refuse 7)
+    ∷ textA ".9999999999999999" (refuse 6)
+    ∷ under offsetOne ".0" (refuse 6)
     ∷ under offsetOne "9999999999999999.0" (refuse 9)
+    ∷ under firstOne "0.9999999999999999" (refuse 8)
+    ∷ under offsetOne "999999999999999.0" (refuse 8)
     -- a missing field adds no ticks whatever its offset; one below its offset is refused
     ∷ under layoutB "20538:39" (readsAs 985_855_200)
     ∷ under layoutB "20538:39:" (readsAs 985_855_200)
@@ -136,6 +140,8 @@ readings =
     ∷ stampA "0/" (refuse 6)
     ∷ stampA "0/x" (refuse 5)
     ∷ stampA "3/9999999999999999" (refuse 9)
+    ∷ stampA "3/100000000000000.1" (refuse 9)
+    ∷ stampA "0/99.9" (refuse 10)
     ∷ stampA "0/1" (refuse 10)
     -- the last partition, and one more
     ∷ stampA "2/20.0" (readsAs 500)
@@ -145,11 +151,18 @@ readings =
     ∷ stampA " /5" (refuse 5)
     ∷ stampA "1 2/5" (refuse 5)
     ∷ stampA "1.2/5" (refuse 5)
+    ∷ stampA "1./5" (refuse 5)
+    ∷ stampA ".1/5" (refuse 5)
+    ∷ stampA "1x/5" (refuse 5)
+    ∷ stampA "/" (refuse 5)
+    ∷ stampA "/1.2.3" (refuse 5)
     ∷ stampA "1/2/5" (refuse 5)
     ∷ textA "1/5" (refuse 5)
     ∷ stampA "1/" (refuse 6)
     ∷ stampA " 1 / 5.3" (readsAs 53)
-    -- an end belongs to its partition, named or not
+    -- a start and an end belong to their partition, named or not
+    ∷ stampA "2/19.9" (refuse 11)
+    ∷ stampA "30.0" (readsAs 300)
     ∷ stampA "50.0" (readsAs 500)
     ∷ stampA "50.1" (readsAs 801)
     ∷ stampA "1/50.0" (readsAs 500)
@@ -163,6 +176,7 @@ readings =
     ∷ messageA (bytes "1/5.3" ++ (0 ∷ 6 ∷ [])) (refuse 17)
     ∷ messageA (bytes "1/5.3" ++ (0 ∷ 0 ∷ [])) (refuse 17)
     ∷ messageA (bytes "1/5.3" ++ (1 ∷ 5 ∷ [])) (refuse 17)
+    ∷ messageA (zeros 97 ++ (1 ∷ 0 ∷ [])) (refuse 17)
     ∷ messageA (zeros 94 ++ bytes "5.3" ++ (0 ∷ 96 ∷ [])) (readsAs 53)
     ∷ messageA (zeros 94 ++ bytes "5.3" ++ (0 ∷ 97 ∷ [])) (refuse 17)
     ∷ messageA [] (refuse 17)
@@ -179,5 +193,5 @@ readings =
     ∷ []
 
 pub readings-hold : map (λ r. answerTo (r .asked)) readings ≡ map (λ r. r .expected) readings
-unfolding computing bytes layoutA partitionsA layoutB answerTo readsAs textA stampA bytesA messageA layout under one three offsetOne far noLayout noPartitions nines zeros blanks readings
+unfolding computing bytes layoutA partitionsA layoutB answerTo readsAs textA stampA bytesA messageA layout under one three offsetOne firstOne far noLayout noPartitions nines zeros blanks readings
 readings-hold = refl

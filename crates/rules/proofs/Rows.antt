@@ -65,7 +65,7 @@ product-A : productOf layoutA ≡ 1_000
 unfolding productOf layoutA product
 product-A = refl
 
-pub many-partitions : (n : ℕ) → partitionsOk (productOf layoutA) (manyPartitions n) ≡ (leb 1 n && leb n mostPartitions)
+pub many-partitions : (n : ℕ) → partitionsOk (productOf layoutA) (manyPartitions n) ≡ (leb 1 n && leb n 9_999)
 many-partitions n = same-test _ _ (λ h. few (partitions-facts _ _ h)) (λ h. partitions-accepted _ _ (fits (leb-true 1 n (and-first (leb 1 n) _ h)) (leb-true n mostPartitions (and-second (leb 1 n) _ h))))
   where
     few : PartitionsFacts (productOf layoutA) (manyPartitions n) → (leb 1 n && leb n mostPartitions) ≡ true
@@ -144,7 +144,7 @@ module _ (n : ℕ) where
       rw (many-time i h, many-rate i h, many-count i h, unit-A)
       (le-leb (1_000_000 * i + (10_000 * (e - i) + 9_999) / 10_000) 4_000_000_000_000_000_000 (omega arith))
 
-  pub many-segments : segmentsOk (unitOf layoutA) (totalOf spans) (manySegments n) ≡ (leb 1 n && leb n mostSegments)
+  pub many-segments : segmentsOk (unitOf layoutA) (totalOf spans) (manySegments n) ≡ (leb 1 n && leb n 10_000)
   many-segments =
       same-test _ _ (λ h. few (segments-facts _ _ _ h))
       (λ h. segments-accepted _ _ _ (fits (leb-true 1 n (and-first (leb 1 n) _ h)) (leb-true n mostSegments (and-second (leb 1 n) _ h))))

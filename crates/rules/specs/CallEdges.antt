@@ -1,20 +1,59 @@
--- The limits of the calls themselves, each at its edge and one beyond: a table with one statement for each kind of call.
-use Prim.Native.Nat.{ℕ, _-_, _*_, _^_}
+-- The limits of the calls themselves, each at its edge and one beyond, and the order of refusals where two faults meet: a table with one
+-- statement for each kind of call. Then what the code's answers mean.
+use Prim.Native.Nat.{ℕ, zero, suc, _+_, _-_, _*_, _^_}
 use Prim.Native.String.{String}
 use mathlib.Core.Path.{_≡_, refl}
-use mathlib.Core.List.{List, [], _∷_, _++_}
+use mathlib.Core.Bool.{Bool, true, false, cond}
+use mathlib.Core.List.{List, [], _∷_, _++_, map}
 use lib.IntN.{pos, negsuc}
+use lib.Ieee.{nan, inf}
 use lib.ListN.{length, replicate}
 use Rattle.rules.specs.declared.Layout.{Layout}
-use Rattle.rules.specs.Answer.{answer, refuse, reading, countAtTime, timedStamp}
+use Rattle.rules.specs.declared.Reading.{Reading}
+use Rattle.rules.specs.declared.ReadAnswer.the-variants as Reads
+use Rattle.rules.specs.declared.TimeAnswer.the-variants as Times
+use Rattle.rules.specs.declared.CountAnswer.the-variants as Counts
+use Rattle.rules.specs.declared.StampAnswer.the-variants as Stamps
+use Rattle.rules.specs.declared.PrintAnswer.the-variants as Prints
+use Rattle.rules.specs.declared.StepsBackAnswer.the-variants as Steps
+use Rattle.rules.specs.declared.DoubleAnswer.the-variants as Doubles
+use Rattle.rules.specs.Answer.{
+  Answer,
+  answer,
+  refused,
+  refuse,
+  numbered,
+  reading,
+  timeOfCount,
+  countAtTime,
+  timedStamp,
+  readAnswer,
+  timeAnswer,
+  countAnswer,
+  stampAnswer,
+  printAnswer,
+  stepsBackAnswer,
+  doubleAnswer,
+}
+use Rattle.rules.specs.Partitions.{Partitions, partitions}
 use Rattle.rules.specs.Segments.{Segments, segments}
 use Rattle.rules.specs.Text.{readText, fieldsOf}
-use Rattle.rules.specs.Message.{readMessage}
-use Rattle.rules.specs.Print.{printCount, bufferAfter}
-use Rattle.rules.specs.Time.{countAt}
+use Rattle.rules.specs.Message.{textLength, readMessage}
+use Rattle.rules.specs.Print.{printCount, printStamp, lengthPrinted, bufferAfter}
+use Rattle.rules.specs.Time.{timeOf, countAt, stepsBackIn}
 use Rattle.rules.specs.StampTime.{timeOfStamp, timeOfMessage}
 use Rattle.rules.specs.Computing.{computing}
 use Rattle.rules.specs.Examples.{bytes, layoutA, partitionsA, segmentsA}
+
+-- a layout without fields; no partitions; no segments
+unfoldable pub noLayout : Layout
+noLayout = record { n = 0; moduli = []; offsets = []; delimiter = 1 }
+
+unfoldable pub noPartitions : Partitions
+noPartitions = partitions [] []
+
+unfoldable pub noSegments : Segments
+noSegments = segments [] [] []
 
 -- the text reader's marks and blanks: the fields of a text, each as its digits
 unfoldable pub digitsIn : String → List (List ℕ)
@@ -30,7 +69,7 @@ tens o d =
       delimiter = d;
     }
 
--- one field of modulus 10^15
+-- one field of modulus 10^15 and the largest offset
 unfoldable pub long : Layout
 long =
     record {
@@ -40,66 +79,195 @@ long =
       delimiter = 1;
     }
 
--- a message whose text is n zeros and whose trailer says L
+-- two fields of these moduli
+unfoldable pub two : ℕ → ℕ → Layout
+two m k =
+    record {
+      n = 2;
+      moduli = m ∷ k ∷ 0 ∷ 0 ∷ 0 ∷ 0 ∷ 0 ∷ 0 ∷ 0 ∷ 0 ∷ [];
+      offsets = 0 ∷ 0 ∷ 0 ∷ 0 ∷ 0 ∷ 0 ∷ 0 ∷ 0 ∷ 0 ∷ 0 ∷ [];
+      delimiter = 1;
+    }
+
+-- a message of n zeros and a trailer that says L
 unfoldable pub message : ℕ → ℕ → List ℕ
 message n L = replicate n 48 ++ (0 ∷ L ∷ [])
 
+-- the buffer after the call
 unfoldable pub countBuffer : Layout → ℕ → List ℕ → List ℕ
 countBuffer l c b = bufferAfter (printCount l c (length b)) b
 
+unfoldable pub stampBuffer : ℕ → List ℕ → List ℕ
+stampBuffer e b = bufferAfter (printStamp layoutA partitionsA e (length b)) b
+
+-- every mark, runs of blanks, a trailing mark, blanks alone
 pub fields-edges :
-    (digitsIn "1  2" ∷ digitsIn " 1 : : 3" ∷ digitsIn "1 .2" ∷ digitsIn "12." ∷ digitsIn "  " ∷ [])
-    ≡ (((1 ∷ []) ∷ (2 ∷ []) ∷ []) ∷ ((1 ∷ []) ∷ [] ∷ (3 ∷ []) ∷ []) ∷ ((1 ∷ []) ∷ (2 ∷ []) ∷ []) ∷ ((1 ∷ 2 ∷ []) ∷ [] ∷ []) ∷ ([] ∷ []) ∷ [])
+    map digitsIn ("1.2" ∷ "1:2" ∷ "1,2" ∷ "1-2" ∷ "1  2" ∷ " 1 : : 3" ∷ "1 .2" ∷ "12." ∷ "  " ∷ [])
+    ≡ (((1 ∷ []) ∷ (2 ∷ []) ∷ []) ∷ ((1 ∷ []) ∷ (2 ∷ []) ∷ []) ∷ ((1 ∷ []) ∷ (2 ∷ []) ∷ []) ∷ ((1 ∷ []) ∷ (2 ∷ []) ∷ []) ∷ ((1 ∷ []) ∷ (2 ∷ []) ∷ [])
+    ∷ ((1 ∷ []) ∷ [] ∷ (3 ∷ []) ∷ []) ∷ ((1 ∷ []) ∷ (2 ∷ []) ∷ []) ∷ ((1 ∷ 2 ∷ []) ∷ [] ∷ []) ∷ ([] ∷ []) ∷ [])
 unfolding computing digitsIn bytes
 fields-edges = refl
 
+-- whether a text is read
+unfoldable pub isRead : Answer Reading → Bool
+isRead (answer r) = true
+isRead (refused k) = false
+
+-- the bytes below n that may stand after a `1`
+unfoldable pub bytesRead : ℕ → List ℕ
+bytesRead zero = []
+bytesRead (suc n) = bytesRead n ++ cond (isRead (readText layoutA (49 ∷ n ∷ []))) (n ∷ []) []
+
+-- of all 256 these 15: blank, `,` `-` `.`, the digits, `:`
+pub allowed-bytes :
+    bytesRead 256
+    ≡ (32 ∷ 44 ∷ 45 ∷ 46 ∷ 48 ∷ 49 ∷ 50 ∷ 51 ∷ 52 ∷ 53 ∷ 54 ∷ 55 ∷ 56 ∷ 57 ∷ 58 ∷ [])
+unfolding computing layoutA isRead bytesRead
+allowed-bytes = refl
+
+-- counted
+pub allowed-number : length (bytesRead 256) ≡ 15
+unfolding computing layoutA isRead bytesRead
+allowed-number = refl
+
+-- a field and the sum at their limits; fields at and below their offset; 96 bytes and 97, and 4 before 5
 pub reading-edges :
     (readText long (bytes "1000000000001000") ∷ readText long (bytes "1000000000001001") ∷ readText (tens 1 1) (bytes "1000000000001000.0") ∷ readText (tens 1 1) (bytes "1000000000001001.0") ∷ readText layoutA (bytes "100000000000000.0")
     ∷ readText layoutA (bytes "100000000000000.1") ∷ readText (tens 1 1) (bytes "12.") ∷ readText (tens 1 1) (bytes "12.0") ∷ readText (tens 1 1) (bytes "12.1")
-    ∷ readText layoutA (replicate 96 48) ∷ readText layoutA (replicate 97 48) ∷ [])
-    ≡ (answer (reading (10 ^ 15)) ∷ refuse 9 ∷ refuse 8 ∷ refuse 9 ∷ answer (reading (10 ^ 15)) ∷ refuse 9 ∷ answer (reading 120) ∷ refuse 8 ∷ answer (reading 120) ∷ answer (reading 0) ∷ refuse 4 ∷ [])
+    ∷ readText layoutA (replicate 96 48) ∷ readText layoutA (replicate 97 48) ∷ readText layoutA (replicate 96 120) ∷ readText layoutA (replicate 97 120) ∷ [])
+    ≡ (answer (reading (10 ^ 15)) ∷ refuse 9 ∷ refuse 8 ∷ refuse 9 ∷ answer (reading (10 ^ 15)) ∷ refuse 9 ∷ answer (reading 120) ∷ refuse 8 ∷ answer (reading 120) ∷ answer (reading 0) ∷ refuse 4 ∷ refuse 5 ∷ refuse 4 ∷ [])
 unfolding computing bytes layoutA tens long
 reading-edges = refl
 
+-- L from 1 to 96 and at most the message length less 2; its high byte counts
 pub message-edges :
-    (readMessage layoutA partitionsA (message 1 0) ∷ readMessage layoutA partitionsA (message 1 1) ∷ readMessage layoutA partitionsA (message 1 2)
-    ∷ readMessage layoutA partitionsA (message 96 96) ∷ readMessage layoutA partitionsA (message 97 97) ∷ readMessage layoutA partitionsA (message 0 0)
-    ∷ readMessage layoutA partitionsA (1 ∷ []) ∷ [])
-    ≡ (refuse 17 ∷ answer (reading 0) ∷ refuse 17 ∷ answer (reading 0) ∷ refuse 17 ∷ refuse 17 ∷ refuse 17 ∷ [])
-unfolding computing layoutA partitionsA message
+    map (readMessage layoutA partitionsA)
+    (message 1 0 ∷ message 1 1 ∷ message 1 2 ∷ message 96 96 ∷ message 97 97 ∷ message 0 0 ∷ (1 ∷ []) ∷ (replicate 97 48 ++ (1 ∷ 0 ∷ [])) ∷ (replicate 300 48 ++ (1 ∷ 0 ∷ []))
+    ∷ (bytes "1/5.3" ++ (1 ∷ 5 ∷ [])) ∷ [])
+    ≡ (refuse 17 ∷ answer (reading 0) ∷ refuse 17 ∷ answer (reading 0) ∷ refuse 17 ∷ refuse 17 ∷ refuse 17 ∷ refuse 17 ∷ refuse 17 ∷ refuse 17 ∷ [])
+unfolding computing bytes layoutA partitionsA message
 message-edges = refl
 
--- five bytes of 7 are lent: the print, the rest untouched; a refusal leaves all
+-- 256 times the high byte and the low byte
+pub trailer : textLength (1 ∷ 5 ∷ []) ≡ 261
+unfolding textLength
+trailer = refl
+
+-- bytes of 7 are lent: the print, the rest untouched; a refusal leaves all. The width is that of modulus - 1: of 0, 9, 10, 99 and 100
 pub print-edges :
     (countBuffer (tens 0 1) 123 (replicate 5 7) ∷ countBuffer (tens 0 2) 123 (replicate 5 7) ∷ countBuffer (tens 0 3) 123 (replicate 5 7)
     ∷ countBuffer (tens 0 4) 123 (replicate 5 7) ∷ countBuffer (tens 0 5) 123 (replicate 5 7) ∷ countBuffer (tens 1 1) 129 (replicate 5 7)
-    ∷ countBuffer layoutA 123 (replicate 4 7) ∷ countBuffer layoutA 123 (replicate 3 7) ∷ countBuffer layoutA 999 (replicate 5 7)
+    ∷ countBuffer (two 100 1) 3 (replicate 5 7) ∷ countBuffer (two 101 11) 58 (replicate 6 7) ∷ countBuffer layoutA 123 (replicate 4 7) ∷ countBuffer layoutA 123 (replicate 3 7) ∷ countBuffer layoutA 999 (replicate 5 7)
     ∷ countBuffer layoutA 1_000 (replicate 5 7) ∷ [])
     ≡ ((bytes "12.3" ++ (7 ∷ [])) ∷ (bytes "12:3" ++ (7 ∷ [])) ∷ (bytes "12-3" ++ (7 ∷ [])) ∷ (bytes "12,3" ++ (7 ∷ [])) ∷ (bytes "12 3" ++ (7 ∷ []))
-    ∷ bytes "12.10" ∷ bytes "12.3" ∷ replicate 3 7 ∷ (bytes "99.9" ++ (7 ∷ [])) ∷ replicate 5 7 ∷ [])
-unfolding computing countBuffer bytes tens layoutA
+    ∷ bytes "12.10" ∷ (bytes "03.0" ++ (7 ∷ [])) ∷ bytes "005.03" ∷ bytes "12.3" ∷ replicate 3 7 ∷ (bytes "99.9" ++ (7 ∷ [])) ∷ replicate 5 7 ∷ [])
+unfolding computing countBuffer bytes tens two layoutA
 print-edges = refl
 
--- one segment from the earliest time on; T at ±4×10^18 and one beyond; a line that just reaches the next segment's count, and the total
+-- table A's partitions 0..500 and 200..900 from their starts to their ends; a buffer as long as the print, and one byte less
+pub stamp-edges :
+    (stampBuffer 0 (replicate 7 7) ∷ stampBuffer 499 (replicate 7 7) ∷ stampBuffer 500 (replicate 7 7) ∷ stampBuffer 501 (replicate 7 7) ∷ stampBuffer 1_200 (replicate 7 7)
+    ∷ stampBuffer 1_201 (replicate 7 7) ∷ stampBuffer 499 (replicate 6 7) ∷ stampBuffer 499 (replicate 5 7) ∷ [])
+    ≡ ((bytes "1/00.0" ++ (7 ∷ [])) ∷ (bytes "1/49.9" ++ (7 ∷ [])) ∷ (bytes "2/20.0" ++ (7 ∷ [])) ∷ (bytes "2/20.1" ++ (7 ∷ [])) ∷ (bytes "2/90.0" ++ (7 ∷ []))
+    ∷ replicate 7 7 ∷ bytes "1/49.9" ∷ replicate 5 7 ∷ [])
+unfolding computing stampBuffer bytes layoutA partitionsA
+stamp-edges = refl
+
+-- partition 10 of ten partitions 0..1, unpadded; "the answer is its length"
+pub tenth-partition :
+    (printStamp layoutA (partitions (replicate 10 0) (replicate 10 1)) 9 7 ≡ answer (bytes "10/00.0"))
+    × (lengthPrinted (printStamp layoutA (partitions (replicate 10 0) (replicate 10 1)) 9 96) ≡ answer 7)
+unfolding computing bytes layoutA
+tenth-partition = (refl, refl)
+
+-- 16 comes after 1 and 9, and after 1, 2 and 12; 12 after 1 and 2
+pub print-orders :
+    ((printCount noLayout 1_000 0 ∷ printCount layoutA 1_000 0 ∷ printCount layoutA 999 0 ∷ []) ≡ (refuse 1 ∷ refuse 9 ∷ refuse 16 ∷ []))
+    × ((printStamp noLayout noPartitions 1_201 0 ∷ printStamp layoutA noPartitions 1_201 0 ∷ printStamp layoutA partitionsA 1_201 0 ∷ printStamp layoutA partitionsA 1_200 0 ∷ [])
+    ≡ (refuse 1 ∷ refuse 2 ∷ refuse 12 ∷ refuse 16 ∷ []))
+unfolding computing layoutA partitionsA noLayout noPartitions
+print-orders = (refl, refl)
+
+-- the first count, the last of a segment, the first of the next, the total and one more
+pub time-edges :
+    map (timeOf layoutA partitionsA segmentsA) (0 ∷ 599 ∷ 600 ∷ 1_200 ∷ 1_201 ∷ [])
+    ≡ (answer (timeOfCount (negsuc 999)) ∷ answer (timeOfCount (pos 498)) ∷ answer (timeOfCount (pos 1_000)) ∷ answer (timeOfCount (pos 2_800)) ∷ refuse 12 ∷ [])
+unfolding computing layoutA partitionsA segmentsA
+time-edges = refl
+
+-- a tick of 1.0001 ns, and one of 1 ns: rounded up, and exact
+pub rounded-edges :
+    (timeOf layoutA partitionsA (segments (0 ∷ []) (pos 0 ∷ []) (10_001 ∷ [])) 1 ∷ timeOf layoutA partitionsA (segments (0 ∷ []) (pos 0 ∷ []) (10_000 ∷ [])) 1 ∷ [])
+    ≡ (answer (timeOfCount (pos 2)) ∷ answer (timeOfCount (pos 1)) ∷ [])
+unfolding computing layoutA partitionsA
+rounded-edges = refl
+
+-- one segment from the earliest time on; one that reaches the latest time at the total
 unfoldable pub early : Segments
 early = segments (0 ∷ []) (negsuc (4 * 10 ^ 18 - 1) ∷ []) (10_000 ∷ [])
 
-pub time-edges :
-    (countAt layoutA partitionsA early (negsuc (4 * 10 ^ 18)) ∷ countAt layoutA partitionsA early (negsuc (4 * 10 ^ 18 - 1))
-    ∷ countAt layoutA partitionsA segmentsA (negsuc (4 * 10 ^ 18 - 1)) ∷ countAt layoutA partitionsA early (pos (4 * 10 ^ 18))
-    ∷ countAt layoutA partitionsA segmentsA (pos 500) ∷ countAt layoutA partitionsA segmentsA (pos 2_802) ∷ [])
-    ≡ (refuse 14 ∷ answer (countAtTime 0) ∷ refuse 13 ∷ refuse 14 ∷ answer (countAtTime 599) ∷ answer (countAtTime 1_200) ∷ [])
-unfolding computing layoutA partitionsA segmentsA early
-time-edges = refl
+unfoldable pub late : Segments
+late = segments (0 ∷ []) (pos (4 * 10 ^ 18 - 3_000) ∷ []) (25_000 ∷ [])
+
+-- T one below -4×10^18 and at it, at 4×10^18 and one above, where the line would still answer 1,200; within the range a time before the
+-- first segment is refused 13, and one whose answer is above the total 14
+pub range-edges :
+    (countAt layoutA partitionsA early (negsuc (4 * 10 ^ 18)) ∷ countAt layoutA partitionsA early (negsuc (4 * 10 ^ 18 - 1)) ∷ countAt layoutA partitionsA segmentsA (negsuc (4 * 10 ^ 18 - 1))
+    ∷ countAt layoutA partitionsA early (pos (4 * 10 ^ 18)) ∷ countAt layoutA partitionsA late (pos (4 * 10 ^ 18)) ∷ countAt layoutA partitionsA late (pos (4 * 10 ^ 18 + 1)) ∷ [])
+    ≡ (refuse 14 ∷ answer (countAtTime 0) ∷ refuse 13 ∷ refuse 14 ∷ answer (countAtTime 1_200) ∷ refuse 14 ∷ [])
+unfolding computing layoutA partitionsA segmentsA early late
+range-edges = refl
+
+-- the first segment's time and one before; a line that just reaches the next segment's count, and the next one's time; the total and one more
+pub count-edges :
+    map (countAt layoutA partitionsA segmentsA)
+    (negsuc 1_000 ∷ negsuc 999 ∷ negsuc 997 ∷ negsuc 996 ∷ pos 497 ∷ pos 498 ∷ pos 500 ∷ pos 999 ∷ pos 1_000 ∷ pos 1_003 ∷ pos 2_802 ∷ pos 2_803 ∷ [])
+    ≡ (refuse 13 ∷ answer (countAtTime 0) ∷ answer (countAtTime 0) ∷ answer (countAtTime 1) ∷ answer (countAtTime 598) ∷ answer (countAtTime 599) ∷ answer (countAtTime 599)
+    ∷ answer (countAtTime 599) ∷ answer (countAtTime 600) ∷ answer (countAtTime 601) ∷ answer (countAtTime 1_200) ∷ refuse 14 ∷ [])
+unfolding computing layoutA partitionsA segmentsA
+count-edges = refl
+
+-- 12 and 14 come after 1, 2 and 3, and these in this order
+pub time-orders :
+    ((timeOf noLayout noPartitions noSegments 1_201 ∷ timeOf layoutA noPartitions noSegments 1_201 ∷ timeOf layoutA partitionsA noSegments 1_201 ∷ timeOf layoutA partitionsA segmentsA 1_201 ∷ [])
+    ≡ (refuse 1 ∷ refuse 2 ∷ refuse 3 ∷ refuse 12 ∷ []))
+    × ((countAt noLayout noPartitions noSegments (pos (4 * 10 ^ 18 + 1)) ∷ countAt layoutA noPartitions noSegments (pos (4 * 10 ^ 18 + 1)) ∷ countAt layoutA partitionsA noSegments (pos (4 * 10 ^ 18 + 1))
+    ∷ countAt layoutA partitionsA segmentsA (pos (4 * 10 ^ 18 + 1)) ∷ [])
+    ≡ (refuse 1 ∷ refuse 2 ∷ refuse 3 ∷ refuse 14 ∷ []))
+    × ((stepsBackIn noLayout noPartitions noSegments ∷ stepsBackIn layoutA noPartitions noSegments ∷ stepsBackIn layoutA partitionsA noSegments ∷ []) ≡ (refuse 1 ∷ refuse 2 ∷ refuse 3 ∷ []))
+unfolding computing layoutA partitionsA segmentsA noLayout noPartitions noSegments
+time-orders = (refl, refl, refl)
 
 -- a stamp with its time; what reading refuses comes before a bad segment table, and that before 13
 pub stamp-time-edges :
     (timeOfStamp layoutA partitionsA segmentsA (bytes "1/0.1") ∷ timeOfStamp layoutA partitionsA segmentsA (bytes "50.1") ∷ timeOfStamp layoutA partitionsA segmentsA (bytes "1/50.1")
-    ∷ timeOfStamp layoutA partitionsA (segments [] [] []) (bytes "1/50.1") ∷ timeOfStamp layoutA partitionsA (segments [] [] []) (bytes "1/0.1")
+    ∷ timeOfStamp layoutA partitionsA noSegments (bytes "1/50.1") ∷ timeOfStamp layoutA partitionsA noSegments (bytes "1/0.1")
     ∷ timeOfStamp layoutA partitionsA (segments (1 ∷ []) (pos 0 ∷ []) (10_000 ∷ [])) (bytes "1/0.0")
-    ∷ timeOfMessage layoutA partitionsA segmentsA (7 ∷ 208 ∷ bytes "1/5.3" ++ (0 ∷ 5 ∷ [])) ∷ timeOfMessage layoutA partitionsA (segments [] [] []) (7 ∷ 208 ∷ bytes "1/5.3" ++ (0 ∷ 8 ∷ []))
-    ∷ timeOfMessage layoutA partitionsA (segments [] [] []) (7 ∷ 208 ∷ bytes "1/5.3" ++ (0 ∷ 5 ∷ [])) ∷ [])
+    ∷ timeOfMessage layoutA partitionsA segmentsA (7 ∷ 208 ∷ bytes "1/5.3" ++ (0 ∷ 5 ∷ [])) ∷ timeOfMessage layoutA partitionsA noSegments (7 ∷ 208 ∷ bytes "1/5.3" ++ (0 ∷ 8 ∷ []))
+    ∷ timeOfMessage layoutA partitionsA noSegments (7 ∷ 208 ∷ bytes "1/5.3" ++ (0 ∷ 5 ∷ [])) ∷ [])
     ≡ (answer (timedStamp 1 (negsuc 996)) ∷ answer (timedStamp 801 (pos 1_603)) ∷ refuse 11 ∷ refuse 11 ∷ refuse 3 ∷ refuse 13
     ∷ answer (timedStamp 53 (negsuc 866)) ∷ refuse 17 ∷ refuse 3 ∷ [])
-unfolding computing bytes layoutA partitionsA segmentsA
+unfolding computing bytes layoutA partitionsA segmentsA noSegments
 stamp-time-edges = refl
+
+-- What the numbers of a refusal and of a value are.
+pub numbers-mean :
+    ((numbered 14 .number ∷ numbered 15 .number ∷ reading 5 .count ∷ reading 6 .count ∷ countAtTime 5 .count ∷ countAtTime 6 .count ∷ timedStamp 5 (pos 7) .count ∷ timedStamp 6 (negsuc 8) .count ∷ [])
+    ≡ (14 ∷ 15 ∷ 5 ∷ 6 ∷ 5 ∷ 6 ∷ 5 ∷ 6 ∷ []))
+    × ((timeOfCount (pos 5) .time ∷ timeOfCount (negsuc 6) .time ∷ timedStamp 5 (pos 7) .time ∷ timedStamp 6 (negsuc 8) .time ∷ []) ≡ (pos 5 ∷ negsuc 6 ∷ pos 7 ∷ negsuc 8 ∷ []))
+numbers-mean = (refl, refl)
+
+-- What each case of the code's answers means: its own value, or the refusal of its own number, whichever that is.
+pub answers-mean :
+    (map readAnswer (Reads.Read (reading 5) ∷ Reads.Read (reading 6) ∷ Reads.Refused (numbered 4) ∷ Reads.Refused (numbered 12) ∷ [])
+    ≡ (answer (reading 5) ∷ answer (reading 6) ∷ refuse 4 ∷ refuse 12 ∷ []))
+    × (map timeAnswer (Times.Time (timeOfCount (pos 5)) ∷ Times.Time (timeOfCount (negsuc 6)) ∷ Times.Refused (numbered 4) ∷ Times.Refused (numbered 12) ∷ [])
+    ≡ (answer (timeOfCount (pos 5)) ∷ answer (timeOfCount (negsuc 6)) ∷ refuse 4 ∷ refuse 12 ∷ []))
+    × (map countAnswer (Counts.Count (countAtTime 5) ∷ Counts.Count (countAtTime 6) ∷ Counts.Refused (numbered 13) ∷ Counts.Refused (numbered 14) ∷ [])
+    ≡ (answer (countAtTime 5) ∷ answer (countAtTime 6) ∷ refuse 13 ∷ refuse 14 ∷ []))
+    × (map stampAnswer (Stamps.Stamp (timedStamp 5 (pos 7)) ∷ Stamps.Stamp (timedStamp 6 (negsuc 8)) ∷ Stamps.Refused (numbered 3) ∷ Stamps.Refused (numbered 11) ∷ [])
+    ≡ (answer (timedStamp 5 (pos 7)) ∷ answer (timedStamp 6 (negsuc 8)) ∷ refuse 3 ∷ refuse 11 ∷ []))
+    × (map printAnswer (Prints.Length 5 ∷ Prints.Length 6 ∷ Prints.Refused (numbered 12) ∷ Prints.Refused (numbered 16) ∷ []) ≡ (answer 5 ∷ answer 6 ∷ refuse 12 ∷ refuse 16 ∷ []))
+    × (map stepsBackAnswer (Steps.Yes ∷ Steps.No ∷ Steps.Refused (numbered 2) ∷ Steps.Refused (numbered 3) ∷ []) ≡ (answer true ∷ answer false ∷ refuse 2 ∷ refuse 3 ∷ []))
+    × (map doubleAnswer (Doubles.Double nan ∷ Doubles.Double (inf true) ∷ Doubles.Refused (numbered 14) ∷ Doubles.Refused (numbered 15) ∷ []) ≡ (answer nan ∷ answer (inf true) ∷ refuse 14 ∷ refuse 15 ∷ []))
+answers-mean = (refl, refl, refl, refl, refl, refl, refl)

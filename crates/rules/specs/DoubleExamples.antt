@@ -64,6 +64,9 @@ cases =
     ∷ case (forward zeros 10 3) (answer (ofBits binary64 0x3fd3_3333_3333_3334))
     ∷ case (back zeros 10 threeTenths) (answer (ofBits binary64 0x4007_ffff_ffff_ffff))
     ∷ case (forward (segment (double 0) (neg threeTenths) (double 1)) 10 3) (answer (ofBits binary64 0x3c90_0000_0000_0000))
+    -- the difference of counts comes before the product, that of times before the quotient: 0.1 × 2 and not 0.1 × 3 - 0.1, 2 / 3 and not 3 / 3 - 1 / 3
+    ∷ case (forward (segment (double 1) (double 0) (double 1)) 10 3) (answer (ofBits binary64 0x3fc9_9999_9999_999a))
+    ∷ case (back (segment (double 0) (double 1) (double 3)) 1 (double 3)) (answer (ofBits binary64 0x3fe5_5555_5555_5555))
     -- MSF
     ∷ case (forward zeros 0 0) (refuse 15)
     ∷ case (forward zeros 1 0) (answer (double 0))
@@ -84,6 +87,11 @@ cases =
     ∷ case (forward (segment (double 0) (double 0) (inf false)) 1 0) (refuse 15)
     ∷ case (back zeros 1 nan) (refuse 15)
     ∷ case (back zeros 1 (inf false)) (refuse 15)
+    ∷ case (back zeros 1 (inf true)) (refuse 15)
+    ∷ case (back (segment (inf true) (double 0) (double 1)) 1 (double 0)) (refuse 15)
+    ∷ case (back (segment (inf false) (double 0) (double 1)) 1 (double 0)) (refuse 15)
+    ∷ case (back (segment (double 0) (inf true) (double 1)) 1 (double 0)) (refuse 15)
+    ∷ case (back (segment (double 0) (double 0) (inf false)) 1 (double 0)) (refuse 15)
     -- the rate
     ∷ case (forward (segment (double 0) (double 0) (double 0)) 1 0) (refuse 15)
     ∷ case (back (segment (double 0) (double 0) (neg (double 0))) 1 (double 0)) (refuse 15)

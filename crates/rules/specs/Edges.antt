@@ -8,7 +8,6 @@ use lib.IntN.{ℤ, pos, negsuc}
 use lib.ListN.{replicate, length, take}
 use Rattle.base.specs.Scans.{sumBelow}
 use Rattle.rules.specs.declared.Layout.{Layout}
-use Rattle.rules.specs.Limits.{mostFields}
 use Rattle.rules.specs.Answer.{Answer, answer, refuse}
 use Rattle.rules.specs.Partitions.{Partitions, partitions, totalOf, lengthsBefore}
 use Rattle.rules.specs.Segments.{Segments, segments}
@@ -18,7 +17,7 @@ use Rattle.rules.specs.Examples.{layoutA, partitionsA, segmentsA}
 
 -- ten slots, the given numbers first and 0 after them
 slots : List ℕ → List ℕ
-slots xs = take mostFields (xs ++ replicate mostFields 0)
+slots xs = take 10 (xs ++ replicate 10 0)
 
 layout : ℕ → List ℕ → List ℕ → ℕ → Layout
 layout n ms os d = record { n = n; moduli = slots ms; offsets = slots os; delimiter = d }
@@ -56,6 +55,14 @@ oneSegment t r = segments (0 ∷ []) (t ∷ []) (r ∷ [])
 secondAt : ℕ → ℤ → Segments
 secondAt c t = segments (0 ∷ c ∷ []) (negsuc 999 ∷ t ∷ []) (25_000 ∷ 30_000 ∷ [])
 
+-- table A's segments and a third at count 700
+thirdAt : ℤ → Segments
+thirdAt t = segments (0 ∷ 600 ∷ 700 ∷ []) (negsuc 999 ∷ pos 1_000 ∷ t ∷ []) (25_000 ∷ 30_000 ∷ 30_000 ∷ [])
+
+-- a segment from a time on, 3,000 ns long, and a second one at the total and the latest time
+endingLate : ℕ → Segments
+endingLate t = segments (0 ∷ 1_200 ∷ []) (pos t ∷ pos (4 * 10 ^ 18) ∷ []) (25_000 ∷ 10_000 ∷ [])
+
 pub record Edge : Type 0 where
   pub layout : Layout
   pub spans : Partitions
@@ -90,16 +97,22 @@ edges =
     rowEdge segmentsA grows
     ∷ rowEdge (secondAt 600 (pos 500)) grows
     ∷ rowEdge (secondAt 600 (pos 499)) stepsBackward
+    -- nor with a third that its second line meets at 1,300; at 1,299 it does
+    ∷ rowEdge (thirdAt (pos 1_300)) grows
+    ∷ rowEdge (thirdAt (pos 1_299)) stepsBackward
     -- n
     ∷ layoutEdge (layout 0 (100 ∷ 10 ∷ []) [] 1) (refuse 1)
     ∷ layoutEdge (layout 1 (100 ∷ 10 ∷ []) [] 1) grows
     ∷ layoutEdge (layout 10 (2 ∷ 2 ∷ 2 ∷ 2 ∷ 2 ∷ 2 ∷ 2 ∷ 2 ∷ 2 ∷ 2 ∷ []) [] 1) grows
     ∷ layoutEdge (layout 11 (2 ∷ 2 ∷ 2 ∷ 2 ∷ 2 ∷ 2 ∷ 2 ∷ 2 ∷ 2 ∷ 2 ∷ []) [] 1) (refuse 1)
+    ∷ layoutEdge (record { n = 11; moduli = replicate 11 2; offsets = replicate 11 0; delimiter = 1 }) (refuse 1)
     -- a modulus, an offset; slots after the n-th are not looked at
     ∷ layoutEdge (moduli (100 ∷ 0 ∷ [])) (refuse 1)
     ∷ layoutEdge (moduli (100 ∷ 1 ∷ [])) grows
+    ∷ layoutEdge (moduli (0 ∷ 10 ∷ [])) (refuse 1)
     ∷ layoutEdge (offset 1_000) grows
     ∷ layoutEdge (offset 1_001) (refuse 1)
+    ∷ layoutEdge (layout 2 (100 ∷ 10 ∷ []) (1_001 ∷ []) 1) (refuse 1)
     ∷ layoutEdge (layout 2 (100 ∷ 10 ∷ (2 ^ 64 - 1) ∷ []) (0 ∷ 0 ∷ (2 ^ 64 - 1) ∷ []) 1) grows
     -- P and MSF, and products that wrap in 64 bits
     ∷ layoutEdge (moduli ((10 ^ 15) ∷ [])) grows
@@ -120,6 +133,7 @@ edges =
     ∷ spanEdge (partitions (5 ∷ []) (6 ∷ [])) grows
     ∷ spanEdge (partitions (5 ∷ []) (5 ∷ [])) (refuse 2)
     ∷ spanEdge (partitions (6 ∷ []) (5 ∷ [])) (refuse 2)
+    ∷ spanEdge (partitions (0 ∷ 5 ∷ []) (1 ∷ 5 ∷ [])) (refuse 2)
     ∷ spanEdge (upTo 999) grows
     ∷ spanEdge (upTo 1_000) (refuse 2)
     ∷ edge (moduli ((10 ^ 15) ∷ [])) (partitions (0 ∷ 0 ∷ []) ((10 ^ 15 - 1) ∷ 1 ∷ [])) (oneSegment (pos 0) 1_000) grows
@@ -128,9 +142,13 @@ edges =
     ∷ rowEdge (segments [] [] []) (refuse 3)
     ∷ rowEdge (segments (0 ∷ []) [] (10_000 ∷ [])) (refuse 3)
     ∷ rowEdge (segments (0 ∷ []) (pos 0 ∷ []) []) (refuse 3)
+    ∷ rowEdge (segments (0 ∷ []) (pos 0 ∷ pos 1 ∷ []) (10_000 ∷ [])) (refuse 3)
+    ∷ rowEdge (segments (0 ∷ []) (pos 0 ∷ []) (10_000 ∷ 10_000 ∷ [])) (refuse 3)
     -- counts and times grow strictly; a segment may begin at the total
     ∷ rowEdge (secondAt 0 (pos 1_000)) (refuse 3)
+    ∷ rowEdge (secondAt 1 (pos 1_000)) grows
     ∷ rowEdge (secondAt 1 (negsuc 999)) (refuse 3)
+    ∷ rowEdge (secondAt 1 (negsuc 998)) stepsBackward
     ∷ rowEdge (secondAt 1_200 (pos 5_000)) grows
     ∷ rowEdge (secondAt 1_201 (pos 5_000)) (refuse 3)
     -- the rate: 1,000×MSF is 10,000
@@ -146,6 +164,9 @@ edges =
     ∷ rowEdge (oneSegment (pos (4 * 10 ^ 18 - 1_200)) 10_000) grows
     ∷ rowEdge (oneSegment (pos (4 * 10 ^ 18 - 1_200)) 10_001) (refuse 3)
     ∷ rowEdge (oneSegment (pos (4 * 10 ^ 18 - 1_199)) 10_000) (refuse 3)
+    -- the same of a line that ends at a next segment's count
+    ∷ rowEdge (endingLate (4 * 10 ^ 18 - 3_000)) grows
+    ∷ rowEdge (endingLate (4 * 10 ^ 18 - 2_999)) (refuse 3)
     -- a quotient of some 10^30, before any bound is known
     ∷ rowEdge (segments (0 ∷ (2 ^ 64 - 1) ∷ []) (pos 0 ∷ pos 1 ∷ []) ((10 ^ 15) ∷ (10 ^ 15) ∷ [])) (refuse 3)
     ∷ []
@@ -155,5 +176,5 @@ unfolding totalOf lengthsBefore sumBelow partitionsA
 total-A = refl
 
 pub edges-hold : map (λ e. stepsBackIn (e .layout) (e .spans) (e .rows)) edges ≡ map (λ e. e .expected) edges
-unfolding computing layoutA partitionsA segmentsA slots layout moduli offset delimiter upTo oneSegment secondAt edge grows stepsBackward layoutEdge spanEdge rowEdge edges
+unfolding computing layoutA partitionsA segmentsA slots layout moduli offset delimiter upTo oneSegment secondAt thirdAt endingLate edge grows stepsBackward layoutEdge spanEdge rowEdge edges
 edges-hold = refl

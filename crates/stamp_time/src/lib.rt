@@ -70,15 +70,10 @@ pub fn time_of_message(
     ensures { λ r. ⌜ stampAnswer r ≡ timeOfMessage layout (partitions (now (starts .entry)) (now (ends .entry))) (segments (now (counts .entry)) (now (times .entry)) (now (rates .entry))) (now (message .entry)) ⌝ }
 {
     match text_start(message) {
-        TextStart::At(start) => time_of_stamp(
-            layout,
-            starts,
-            ends,
-            counts,
-            times,
-            rates,
-            text_part(message, start),
-        ),
+        TextStart::At(start) => {
+            let text = text_part(message, start);
+            time_of_stamp(layout, starts, ends, counts, times, rates, text)
+        }
         TextStart::Refused(k) => StampAnswer::Refused(k),
     }
 }

@@ -1,11 +1,11 @@
--- Demand 3 is not empty, and its exception is needed.
+-- Demand 3 is not empty, its exception is needed, and each of its numbers is given.
 use Prim.Native.Nat.{ℕ}
 use native.Mathlib.Omega.{arith}
 use mathlib.Core.Path.{_≡_, refl, ap}
 use Rattle.base.proofs.Tests.{not-both}
 use Rattle.rules.specs.Answer.{Answer, answer, refused, numbered}
 use Rattle.versions.specs.Versions.{PrintedAnswer, Demand3}
-use Rattle.versions.specs.Needed.{nine, fourteen, ExceptionNeeded, cutA, tableA, Witness}
+use Rattle.versions.specs.Needed.{nine, fourteen, ExceptionNeeded, cutA, tableA, Witness, NumbersGiven}
 use Rattle.versions.proofs.Meets.{passes-accepted, meets-all, demand-3-by-tests}
 use Rattle.versions.proofs.WrittenOut.{written-out}
 
@@ -24,6 +24,20 @@ witness =
 pub demand-3-of-A : Demand3 cutA tableA
 unfolding written-out
 demand-3-of-A = demand-3-by-tests cutA tableA refl refl refl
+
+pub numbers-given : NumbersGiven
+unfolding written-out
+numbers-given =
+    record {
+      stamps-refused = refl;
+      stamps-read = refl;
+      print-refused = refl;
+      print-given = refl;
+      time-refused = refl;
+      time-given = refl;
+      count-refused = refl;
+      count-given = refl;
+    }
 
 returnedBy : Answer PrintedAnswer → ℕ
 returnedBy (answer p) = p .returned

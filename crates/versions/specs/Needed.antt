@@ -1,9 +1,9 @@
 -- Nothing that is asked of the two tables can be left out: for each hypothesis two small accepted tables that break it alone,
--- and a question whose two replies break the claim. The exception too can't be left out.
+-- and a question whose two replies break the claim. The exception too can't be left out, nor any of the numbers with which the older refuses.
 use Prim.Native.Nat.{ℕ}
 use Prim.Native.String.{String}
 use mathlib.Core.Path.{_≡_}
-use mathlib.Core.List.{List, [], _∷_}
+use mathlib.Core.List.{List, [], _∷_, map}
 use lib.IntN.{ℤ, pos}
 use lib.ListN.{length, take, replicate}
 use Rattle.rules.specs.declared.Layout.{Layout}
@@ -14,7 +14,7 @@ use Rattle.rules.specs.Answer.{Answer, answer, refuse, reading, timeOfCount, co
 use Rattle.rules.specs.Partitions.{Partitions, partitions}
 use Rattle.rules.specs.Segments.{Segments, segments}
 use Rattle.rules.specs.Examples.{bytes, layoutA, partitionsA, segmentsA}
-use Rattle.versions.specs.Versions.{Table, Accepted, Hypothesis, Says, readBy, PrintedAnswer, printed, timeBy, countBy, Agree, olderRefusesCount, Exception, Demand3}
+use Rattle.versions.specs.Versions.{Table, Accepted, Hypothesis, Says, readBy, PrintedAnswer, printed, timeBy, countBy, Agree, olderRefusesStamp, olderRefusesCount, olderRefusesTime, Exception, Demand3}
 use Rattle.versions.specs.Versions.{same-n, same-moduli, same-offsets, same-delimiter, kept-starts, kept-ends, last-end, kept-counts, kept-times, kept-rates, further-counts, no-step-back}
 
 -- a clock of n fields: the moduli of the first two, the offset of the first, the delimiter
@@ -168,3 +168,15 @@ pub record Witness : Type 0 where
   pub exception : Exception cutA tableA 500
   pub older-prints : ask cutA (print 500) ≡ printIs "1/50.0"
   pub newer-prints : ask tableA (print 500) ≡ printIs "2/20.0"
+
+-- Each number with which the older may refuse is given where the newer answers: a stamp in a partition that the older has not, or of a count
+-- that is in none of its partitions; an encoded count above its total, to print or to turn into time; a time whose answer is above it.
+pub record NumbersGiven : Type 0 where
+  pub stamps-refused : map (λ s. readBy cutA (bytes s)) ("2/20.0" ∷ "50.1" ∷ []) ≡ map refuse olderRefusesStamp
+  pub stamps-read : map (λ s. readBy tableA (bytes s)) ("2/20.0" ∷ "50.1" ∷ []) ≡ (answer (reading 500) ∷ answer (reading 801) ∷ [])
+  pub print-refused : (printed cutA 501 (replicate 6 0) ∷ []) ≡ map refuse olderRefusesCount
+  pub print-given : (printed tableA 501 (replicate 6 0) ∷ []) ≡ (prints "2/20.1" ∷ [])
+  pub time-refused : (timeBy cutA 501 ∷ []) ≡ map refuse olderRefusesCount
+  pub time-given : (timeBy tableA 501 ∷ []) ≡ (answer (timeOfCount (pos 253)) ∷ [])
+  pub count-refused : (countBy cutA (pos 253) ∷ []) ≡ map refuse olderRefusesTime
+  pub count-given : (countBy tableA (pos 253) ∷ []) ≡ (answer (countAtTime 501) ∷ [])

@@ -3,8 +3,6 @@ use borrow.Author.Needs.{needs}
 use Rattle.conversion.proofs.count_within.Statement.{statement}
 use Rattle.conversion.proofs.count_within.Tie as tie
 
--- /work/main/target/rlib/refusals.rlib/interface/lang/src/lib.rt:14:44
-
 pub count-within-spec : {M : Type 1} → statement M
 count-within-spec =
     tie.close

@@ -3,8 +3,6 @@ use borrow.Author.Needs.{needs}
 use Rattle.conversion.proofs.time_within.Statement.{statement}
 use Rattle.conversion.proofs.time_within.Tie as tie
 
--- /work/main/target/rlib/refusals.rlib/interface/lang/src/lib.rt:14:44
-
 pub time-within-spec : {M : Type 1} → statement M
 time-within-spec =
     tie.close
