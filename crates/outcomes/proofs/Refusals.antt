@@ -148,7 +148,7 @@ unfolding timeIn unless
 time-within ks h unit total g e b = rw b (time-only ks h unit g e (segmentOf (g .counts) e))
 
 timed-only : (ks : List ℕ) → among 1 ks ≡ true → among 2 ks ≡ true → among 3 ks ≡ true → among 13 ks ≡ true → (l : Layout) (p : Partitions) (g : Segments) (a : Answer Reading)
-    → OnlyRefuses ks a → ((r : Reading) → a ≡ answer r → leb (r .count) (totalOf p) ≡ true) → OnlyRefuses ks (andThen a (λ r. withTime l p g (r .count)))
+    → OnlyRefuses ks a → ((r : Reading) → a ≡ answer r → leb (r .count) (totalOf p) ≡ true) → OnlyRefuses ks (andThen a (λ r. withTime (r .count) (timeOf l p g (r .count))))
 unfolding withTime timeOf
 timed-only ks h1 h2 h3 h13 l p g a f w =
     then ks _ _ f (λ r h. then ks _ _ (accepted-only ks h1 h2 h3 l p g _ (time-within ks h13 _ _ g _ (w r h))) (λ t _. answers ks _))

@@ -1,6 +1,6 @@
 -- The two definitions one after the other, by the ways out of the code.
 use Prim.Native.Nat.{ℕ}
-use mathlib.Core.Path.{_≡_, refl, sym, _∙_}
+use mathlib.Core.Path.{_≡_, refl, sym, ap, _∙_}
 use mathlib.Core.List.{List}
 use Rattle.rules.specs.declared.Layout.{Layout}
 use Rattle.rules.specs.declared.Refusal.{Refusal}
@@ -39,17 +39,20 @@ use Rattle.message.specs.declared.TextStart.the-variants as Starts
 use Rattle.message.specs.Part.{textStart, startIn}
 use Rattle.message.proofs.Trailer.{start-refused, start-accepted}
 use Rattle.text.proofs.Calls.{stamp-refused, stamp-accepted}
-use Rattle.stamp_time.specs.Count.{timedCount}
+
+-- 3, or the time of e
+abbrev checkedTime : ℕ → ℕ → Segments → ℕ → Answer TimeOfCount
+checkedTime unit total g e = unless 3 (segmentsOk unit total g) (timeIn unit total g e)
 
 -- `timed`: the segments' check answered c
 module _ (unit total : ℕ) (g : Segments) (e : ℕ) (c : CheckAnswer) (v : checkAnswer c ≡ acceptedSegments unit total g) where
-  after-check : andThen (checkAnswer c) (λ _. andThen (timeIn unit total g e) (λ t. answer (timedStamp e (t .time)))) ≡ timedCount unit total g e
-  unfolding acceptedSegments timedCount andThen
-  after-check = rw v (then-unless 3 (segmentsOk unit total g) (answer tt) (λ _. andThen (timeIn unit total g e) (λ t. answer (timedStamp e (t .time)))))
+  after-check : andThen (checkAnswer c) (λ _. timeIn unit total g e) ≡ checkedTime unit total g e
+  unfolding acceptedSegments andThen
+  after-check = rw v (then-unless 3 (segmentsOk unit total g) (answer tt) (λ _. timeIn unit total g e))
 
-  pub segments-out : (k : Refusal) → c ≡ Checks.Refused k → refused k ≡ timedCount unit total g e
-  unfolding andThen
-  segments-out k h = rw h at after-check
+  pub segments-out : (k : Refusal) → c ≡ Checks.Refused k → refused k ≡ withTime e (checkedTime unit total g e)
+  unfolding withTime andThen
+  segments-out k h = ap (withTime e) (rw h at after-check)
 
   module _ (h : c ≡ Checks.Accepted) where
     pub rows : SegmentsFacts unit total g
@@ -57,16 +60,16 @@ module _ (unit total : ℕ) (g : Segments) (e : ℕ) (c : CheckAnswer) (v : chec
     rows = segments-facts unit total g (unless-test 3 (segmentsOk unit total g) (answer tt) tt (rw h at (sym v)))
 
     module _ (a : TimeAnswer) (q : timeAnswer a ≡ timeIn unit total g e) where
-      after-time : andThen (timeAnswer a) (λ t. answer (timedStamp e (t .time))) ≡ timedCount unit total g e
+      after-time : withTime e (timeAnswer a) ≡ withTime e (checkedTime unit total g e)
       unfolding andThen
-      after-time = rw q (rw h at after-check)
+      after-time = ap (withTime e) (q ∙ (rw h at after-check))
 
-      pub time-out : (k : Refusal) → a ≡ Times.Refused k → refused k ≡ timedCount unit total g e
-      unfolding andThen
+      pub time-out : (k : Refusal) → a ≡ Times.Refused k → refused k ≡ withTime e (checkedTime unit total g e)
+      unfolding withTime andThen
       time-out k w = rw w at after-time
 
-      pub time-given : (t : TimeOfCount) → a ≡ Times.Time t → answer (timedStamp e (t .time)) ≡ timedCount unit total g e
-      unfolding andThen
+      pub time-given : (t : TimeOfCount) → a ≡ Times.Time t → answer (timedStamp e (t .time)) ≡ withTime e (checkedTime unit total g e)
+      unfolding withTime andThen
       time-given t w = rw w at after-time
 
 module _ (l : Layout) (p : Partitions) (g : Segments) (s : List ℕ) where
@@ -75,7 +78,7 @@ module _ (l : Layout) (p : Partitions) (g : Segments) (s : List ℕ) where
   unfolding timeOfStamp andThen
   unread k e = rw (← e)
 
-  read : (r : Reading) → answer r ≡ readStamp l p s → withTime l p g (r .count) ≡ timeOfStamp l p g s
+  read : (r : Reading) → answer r ≡ readStamp l p s → withTime (r .count) (timeOf l p g (r .count)) ≡ timeOfStamp l p g s
   unfolding timeOfStamp andThen
   read r e = rw (← e)
 
@@ -90,15 +93,14 @@ module _ (l : Layout) (p : Partitions) (g : Segments) (s : List ℕ) where
       pub reading-out : (k : Refusal) → a ≡ Reads.Refused k → refused k ≡ timeOfStamp l p g s
       reading-out k x = unread k (rw x at was-read)
 
-      timed-is : (e : ℕ) → timedCount (b .unit) (b .total) g e ≡ withTime l p g e
-      unfolding withTime timeOf accepted timedCount
+      timed-is : (e : ℕ) → checkedTime (b .unit) (b .total) g e ≡ timeOf l p g e
+      unfolding timeOf accepted
       timed-is e =
           let n = stamps-facts l p m w q f b h in
-          rw (n .unit, n .total) (rw (← (stamps-accepted l p m w q f b h _ (unless 3 (segmentsOk (unitOf l) (totalOf p) g) (timeIn (unitOf l) (totalOf p) g e)) refl))
-          (sym (then-unless 3 (segmentsOk (unitOf l) (totalOf p) g) (timeIn (unitOf l) (totalOf p) g e) (λ t. answer (timedStamp e (t .time))))))
+          rw (n .unit, n .total) (stamps-accepted l p m w q f b h _ (checkedTime (unitOf l) (totalOf p) g e) refl)
 
-      pub stamp-timed : (r : Reading) (x : Answer TimedStamp) → a ≡ Reads.Read r → x ≡ timedCount (b .unit) (b .total) g (r .count) → x ≡ timeOfStamp l p g s
-      stamp-timed r x y z = z ∙ timed-is (r .count) ∙ read r (rw y at was-read)
+      pub stamp-timed : (r : Reading) (x : Answer TimedStamp) → a ≡ Reads.Read r → x ≡ withTime (r .count) (checkedTime (b .unit) (b .total) g (r .count)) → x ≡ timeOfStamp l p g s
+      stamp-timed r x y z = z ∙ ap (withTime (r .count)) (timed-is (r .count)) ∙ read r (rw y at was-read)
 
     pub numbers : (b : Basis) → q ≡ Accepts.Accepted b → BasisFacts (b .unit) (b .total)
     numbers b h = stamps-facts l p m w q f b h .numbers
@@ -107,7 +109,7 @@ module _ (l : Layout) (p : Partitions) (g : Segments) (s : List ℕ) where
 module _ (l : Layout) (p : Partitions) (g : Segments) (m : List ℕ) (r : TextStart) (e : textStart r ≡ startIn m) where
   guarded : unless 17 (messageOk m) (timeOfStamp l p g (textIn m)) ≡ timeOfMessage l p g m
   unfolding timeOfMessage timeOfStamp readMessage
-  guarded = sym (then-unless 17 (messageOk m) (readStamp l p (textIn m)) (λ x. withTime l p g (x .count)))
+  guarded = sym (then-unless 17 (messageOk m) (readStamp l p (textIn m)) (λ x. withTime (x .count) (timeOf l p g (x .count))))
 
   pub message-out : (k : Refusal) → r ≡ Starts.Refused k → refused k ≡ timeOfMessage l p g m
   message-out k h = start-refused m r e k _ h ∙ guarded
