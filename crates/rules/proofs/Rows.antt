@@ -16,7 +16,7 @@ use Rattle.base.proofs.Tests.{by-test, same-test, and-both, and-first, and-seco
 use Rattle.base.proofs.Scans.{sum-same}
 use Rattle.rules.specs.Limits.{mostPartitions, mostSegments, latestTime}
 use Rattle.rules.specs.Layout.{productOf, msfOf, unitOf}
-use Rattle.rules.specs.Partitions.{Partitions, partitionsIn, startOf, endOf, lengthOf, lengthsBefore, totalOf, partitionsOk}
+use Rattle.rules.specs.Partitions.{partitionsIn, startOf, endOf, lengthOf, lengthsBefore, totalOf, partitionsOk}
 use Rattle.rules.specs.Segments.{segmentsIn, segmentsOk, lineAt, segmentEnd, rowOf}
 use Rattle.rules.specs.Facts.{PartitionFacts, PartitionsFacts, SegmentFacts, Grows, SegmentsFacts}
 use Rattle.rules.specs.Examples.{layoutA}
@@ -95,9 +95,9 @@ unit-A : unitOf layoutA ≡ 10_000
 unfolding unitOf msfOf layoutA product
 unit-A = refl
 
--- table A's layout with as many partitions as there may be
-abbrev pub spans : Partitions
-spans = manyPartitions mostPartitions
+-- a total above every count of the rows, so that the number of rows alone decides
+abbrev pub wideTotal : ℕ
+wideTotal = 20_000
 
 module _ (n : ℕ) where
   many-count : (i : ℕ) → i < n → rowOf (manySegments n) i .count ≡ i
@@ -124,35 +124,35 @@ module _ (n : ℕ) where
   unfolding manySegments
   many-rates = tabulate-length (λ j. 10_000) n
 
-  -- every segment ends by count 9,999
-  many-end : (i : ℕ) → i < n → n ≤ mostSegments → segmentEnd (totalOf spans) (manySegments n .counts) i ≤ 9_999
+  -- every segment ends by the total
+  many-end : (i : ℕ) → i < n → n ≤ mostSegments → segmentEnd wideTotal (manySegments n .counts) i ≤ wideTotal
   unfolding segmentEnd
   many-end i h m =
       by-test (ltb (i + 1) (segmentsIn (manySegments n)))
       (λ t. rw (t, many-count (i + 1) (next t)) (low (next t)))
-      (λ f. rw (f, many-total mostPartitions) (omega arith))
+      (λ f. rw f (omega arith))
     where
       next : ltb (i + 1) (segmentsIn (manySegments n)) ≡ true → i + 1 < n
       next t = rw many-rows at (ltb-true (i + 1) (segmentsIn (manySegments n)) t)
 
-      low : i + 1 < n → i + 1 ≤ 9_999
+      low : i + 1 < n → i + 1 ≤ wideTotal
       low b = omega arith
 
-  many-line : (i e : ℕ) → i < n → n ≤ mostSegments → e ≤ 9_999 → leZ (lineAt (unitOf layoutA) (rowOf (manySegments n) i) e) latestTime ≡ true
+  many-line : (i e : ℕ) → i < n → n ≤ mostSegments → e ≤ wideTotal → leZ (lineAt (unitOf layoutA) (rowOf (manySegments n) i) e) latestTime ≡ true
   unfolding lineAt later roundUp
   many-line i e h m b =
       rw (many-time i h, many-rate i h, many-count i h, unit-A)
       (le-leb (1_000_000 * i + (10_000 * (e - i) + 9_999) / 10_000) 4_000_000_000_000_000_000 (omega arith))
 
-  pub many-segments : segmentsOk (unitOf layoutA) (totalOf spans) (manySegments n) ≡ (leb 1 n && leb n 10_000)
+  pub many-segments : segmentsOk (unitOf layoutA) wideTotal (manySegments n) ≡ (leb 1 n && leb n 10_000)
   many-segments =
       same-test _ _ (λ h. few (segments-facts _ _ _ h))
       (λ h. segments-accepted _ _ _ (fits (leb-true 1 n (and-first (leb 1 n) _ h)) (leb-true n mostSegments (and-second (leb 1 n) _ h))))
     where
-      few : SegmentsFacts (unitOf layoutA) (totalOf spans) (manySegments n) → (leb 1 n && leb n mostSegments) ≡ true
+      few : SegmentsFacts (unitOf layoutA) wideTotal (manySegments n) → (leb 1 n && leb n mostSegments) ≡ true
       few f = and-both (le-leb _ _ (rw many-rows at (f .some))) (le-leb _ _ (rw many-rows at (f .few)))
 
-      row : n ≤ mostSegments → (i : ℕ) → i < n → SegmentFacts (unitOf layoutA) (totalOf spans) (manySegments n) i
+      row : n ≤ mostSegments → (i : ℕ) → i < n → SegmentFacts (unitOf layoutA) wideTotal (manySegments n) i
       row m i b =
           record {
             early = rw (many-time i b);
@@ -169,13 +169,10 @@ module _ (n : ℕ) where
             times = rw (many-time i (omega arith), many-time (i + 1) b) (lt-ltb (1_000_000 * i) (1_000_000 * (i + 1)) (omega arith));
           }
 
-      final : 1 ≤ n → n ≤ mostSegments → rowOf (manySegments n) (segmentsIn (manySegments n) - 1) .count ≤ totalOf spans
-      final low m = rw (many-rows, many-count (n - 1) (omega arith), total-of-spans) (omega arith)
-        where
-          total-of-spans : totalOf spans ≡ 9_999
-          total-of-spans = many-total mostPartitions
+      final : 1 ≤ n → n ≤ mostSegments → rowOf (manySegments n) (segmentsIn (manySegments n) - 1) .count ≤ wideTotal
+      final low m = rw (many-rows, many-count (n - 1) (omega arith)) (omega arith)
 
-      fits : 1 ≤ n → n ≤ mostSegments → SegmentsFacts (unitOf layoutA) (totalOf spans) (manySegments n)
+      fits : 1 ≤ n → n ≤ mostSegments → SegmentsFacts (unitOf layoutA) wideTotal (manySegments n)
       fits low m =
           record {
             times-length = many-times ∙ sym many-rows;
