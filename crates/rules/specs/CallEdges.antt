@@ -153,14 +153,14 @@ pub trailer : textLength (1 ∷ 5 ∷ []) ≡ 261
 unfolding textLength
 trailer = refl
 
--- bytes of 7 are lent: the print, the rest untouched; a refusal leaves all. The width is that of modulus - 1: of 0, 9, 10, 99 and 100
+-- bytes of 7 are lent: the print, the rest untouched; a refusal leaves all. The width is that of modulus - 1, whatever the offset: of 0, 9, 10, 99 and 100
 pub print-edges :
     (countBuffer (tens 0 1) 123 (replicate 5 7) ∷ countBuffer (tens 0 2) 123 (replicate 5 7) ∷ countBuffer (tens 0 3) 123 (replicate 5 7)
-    ∷ countBuffer (tens 0 4) 123 (replicate 5 7) ∷ countBuffer (tens 0 5) 123 (replicate 5 7) ∷ countBuffer (tens 1 1) 129 (replicate 5 7)
+    ∷ countBuffer (tens 0 4) 123 (replicate 5 7) ∷ countBuffer (tens 0 5) 123 (replicate 5 7) ∷ countBuffer (tens 1 1) 129 (replicate 5 7) ∷ countBuffer (tens 1 1) 120 (replicate 5 7)
     ∷ countBuffer (two 100 1) 3 (replicate 5 7) ∷ countBuffer (two 101 11) 58 (replicate 6 7) ∷ countBuffer layoutA 123 (replicate 4 7) ∷ countBuffer layoutA 123 (replicate 3 7) ∷ countBuffer layoutA 999 (replicate 5 7)
     ∷ countBuffer layoutA 1_000 (replicate 5 7) ∷ [])
     ≡ ((bytes "12.3" ++ (7 ∷ [])) ∷ (bytes "12:3" ++ (7 ∷ [])) ∷ (bytes "12-3" ++ (7 ∷ [])) ∷ (bytes "12,3" ++ (7 ∷ [])) ∷ (bytes "12 3" ++ (7 ∷ []))
-    ∷ bytes "12.10" ∷ (bytes "03.0" ++ (7 ∷ [])) ∷ bytes "005.03" ∷ bytes "12.3" ∷ replicate 3 7 ∷ (bytes "99.9" ++ (7 ∷ [])) ∷ replicate 5 7 ∷ [])
+    ∷ bytes "12.10" ∷ (bytes "12.1" ++ (7 ∷ [])) ∷ (bytes "03.0" ++ (7 ∷ [])) ∷ bytes "005.03" ∷ bytes "12.3" ∷ replicate 3 7 ∷ (bytes "99.9" ++ (7 ∷ [])) ∷ replicate 5 7 ∷ [])
 unfolding computing countBuffer bytes tens two layoutA
 print-edges = refl
 
