@@ -1,7 +1,7 @@
 -- Tests as equations `b ≡ true` and `b ≡ false`: a case split, and the tests of `&&`, `||`, `not`, `allOf`.
 use mathlib.Core.Path.{_≡_, refl, sym, _∙_}
 use mathlib.Core.Bool.{Bool, true, false, _&&_, _||_, true≢false}
-use mathlib.Core.List.{List, [], _∷_}
+use mathlib.Core.List.{List, _∷_}
 use Prim.Native.Nat.{ℕ, _≤_}
 use native.Mathlib.Nat.{lt-of-not-le, not-le-of-lt}
 use borrow.Author.Tests.{leb-true, leb-false, le-leb, lt-leb}

@@ -1,4 +1,5 @@
--- A text written into a buffer from right to left: it ends at a given index, and where it starts is the answer.
+-- A text written into a buffer. A writer from right to left is given where it ends and answers where it starts, one from left to right
+-- the other way about; `Room` and `Written` name the end first.
 use Prim.Native.Nat.{ℕ, _+_, _≤_}
 use mathlib.Core.Path.{_≡_}
 use mathlib.Core.List.{List, _++_}

@@ -1,5 +1,5 @@
-// The stamp program on lines at the edges of the rules; on two over-long lines that the chunks' ends cut, of the first of which three
-// bytes are left for the second chunk; and on a last chunk of one byte, which is a line without byte 10.
+// The stamp program on lines at the edges of the rules; on an over-long line that the first chunk's end cuts, so that three bytes and
+// byte 10 are left for the second chunk, and another that nearly fills the second; and on a last chunk of one byte, a line without byte 10.
 fn main() {
     let mut line = [0u8; 97];
     stamp_lines::run(&mut line);
