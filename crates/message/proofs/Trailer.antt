@@ -56,9 +56,6 @@ module _ (m : List ℕ) where
 
   -- the bytes from there to the trailer are the text
   module _ (i : ℕ) (w : TextAt m i) where
-    pub part-ends : i ≤ length m - 2
-    part-ends = omega (arith, w .start)
-
     pub part-is : take (length m - 2 - i) (drop i m) ≡ textIn m
     unfolding textIn
     part-is =

@@ -20,7 +20,7 @@ use rules::Layout;
 use rules::StampAnswer;
 use stamp_time::time_of_stamp;
 
-pub mod put;
+mod put;
 
 // Where the chunk goes on, how many bytes of the line under way are kept, and how many bytes of answers are put.
 pub struct Place {
