@@ -1,5 +1,5 @@
 -- The output as the input comes in, piece by piece, through the line buffer.
-use Prim.Native.Nat.{ℕ, _≤_}
+use Prim.Native.Nat.{ℕ, _-_, _^_, _≤_, min}
 use mathlib.Core.Path.{_≡_}
 use mathlib.Core.Bool.{Bool, true, false}
 use mathlib.Core.List.{List, [], _∷_, _++_, flatten}
@@ -9,6 +9,7 @@ use Rattle.rules.specs.Limits.{longestText}
 use Rattle.lines.specs.Lines.{roomFor}
 use Rattle.lines.specs.Steps.{carried, fed, lineLeft, lastLine}
 use Rattle.decimal.specs.Writing.{Written}
+use Rattle.stamp_lines.specs.declared.Reads.{Reads}
 use Rattle.stamp_lines.specs.Output.{answerLine, answersOf, outputOf}
 
 -- "a line buffer of 97 bytes": room for the longest text, "At most 96 bytes", and for one byte more
@@ -45,3 +46,7 @@ pub record Answered (chunk : List ℕ) (at i : ℕ) (l : List ℕ) (k : ℕ) (li
   pub room : n ≤ length entry
   pub left : take k line ≡ lineLeft lineBuffer l (slice at i chunk)
   pub answers : Written (pieceAnswers l (slice at i chunk)) n 0 entry exit
+
+-- reading went on until a read brought nothing, or until no more reads can be counted
+pub record ToTheEnd (r : Reads) : Type 0 where
+  pub ended : min (r .last) (2 ^ 64 - 1 - r .made) ≡ 0

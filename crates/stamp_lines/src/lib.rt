@@ -10,7 +10,7 @@ ghost use Rattle.rules.specs.Examples.{layoutA};
 ghost use Rattle.lines.specs.Steps.{lineLeft};
 ghost use Rattle.decimal.specs.Writing.{Written};
 ghost use Rattle.stamp_lines.specs.Output.{lineStamp, longestAnswer};
-ghost use Rattle.stamp_lines.specs.Pieces.{lineBuffer, lastAnswer, endedAnswer, Answered};
+ghost use Rattle.stamp_lines.specs.Pieces.{lineBuffer, lastAnswer, endedAnswer, Answered, ToTheEnd};
 use crate::put::LONGEST_ANSWER;
 use crate::put::put_stamp;
 use libc::STDIN_FILENO;
@@ -29,27 +29,38 @@ pub struct Place {
     pub put: usize,
 }
 
+// How many reads brought bytes, and how many bytes the last one brought.
+pub struct Reads {
+    pub made: u64,
+    pub last: usize,
+}
+
 // Reads standard input to its end and writes the answers of its lines. Every line that has ended is answered before more input
 // is asked for.
-pub fn run(line: &mut [u8])
+pub fn run(line: &mut [u8]) -> Reads
     requires { ⌜ now line ≡ replicate lineBuffer 0 ⌝ }
+    ensures { λ r. ⌜ ToTheEnd r ⌝ }
 {
     let mut chunk = io::large_buffer();
     let mut buffer = io::buffer();
     let out: &mut [u8] = &mut buffer;
     let mut kept = 0;
-    // The loop ends with the input; a number of turns that falls shows that it ends at all.
-    let mut turns = u64::MAX;
-    while turns > 0 {
+    // The loop ends with the input; the number of reads shows that it ends at all.
+    let mut made: u64 = 0;
+    let mut last: usize = 0;
+    while made < u64::MAX {
         let got = libc::read(STDIN_FILENO, &mut chunk);
         let n = io::count(got, &chunk);
         if n == 0 {
-            break;
+            write_last(line, kept, out);
+            return Reads { made, last: n };
         }
         kept = write_answers(&chunk[..n], line, kept, out);
-        turns -= 1;
+        last = n;
+        made += 1;
     }
     write_last(line, kept, out);
+    Reads { made, last }
 }
 
 // Writes the answers of the lines that end in the chunk. How many bytes of the line under way are kept.

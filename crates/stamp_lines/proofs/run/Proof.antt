@@ -1,4 +1,4 @@
-use Prim.Native.Nat.{_≤_}
+use Prim.Native.Nat.{_-_, _^_, _≤_}
 use mathlib.Core.Path.{_≡_}
 use lib.ListN.{length}
 use borrow.Author.Needs.{needs}
@@ -9,11 +9,11 @@ use Rattle.stamp_lines.proofs.run.Statement.{statement}
 use Rattle.stamp_lines.proofs.run.Tie as tie
 
 abbrev Inv-loop : tie.InvT-loop
-Inv-loop line₀ chunk₀ out₀ kept₀ turns₀ line chunk out kept turns =
+Inv-loop line₀ chunk₀ out₀ kept₀ made₀ last₀ line chunk out kept made last =
     (length line ≡ lineBuffer) × (length chunk ≡ 65536) × (longestAnswer ≤ length out) × (kept ≤ lineBuffer)
 
 abbrev μ-loop : tie.MeasureT-loop
-μ-loop line₀ chunk₀ out₀ kept₀ turns₀ line chunk out kept turns = turns
+μ-loop line₀ chunk₀ out₀ kept₀ made₀ last₀ line chunk out kept made last = 2 ^ 64 - made
 
 loop-holds : tie.Need-loop-holds Inv-loop μ-loop
 loop-holds c = (search (zeros-length, needs), search needs, search needs, search needs)
@@ -32,6 +32,9 @@ run-spec =
     (λ c κs. search needs)
     (λ c. search needs)
     (λ c κs. search needs)
+    (λ c κs. search needs)
+    (λ c. search needs)
+    (λ c. search needs)
     (λ c. search needs)
     (λ c. search needs)
     (λ c κs. search needs)
