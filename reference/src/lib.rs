@@ -1,4 +1,5 @@
-//! An independent second reading of the clock rules: document 01, sentence by sentence, in plain Rust.
+//! An independent second reading of the clock rules: document 01, sentence by sentence, and request 1 of document 02, in
+//! plain Rust.
 //!
 //! Words in quotation marks in the comments are document 01's. Every public call checks the tables it uses.
 
@@ -6,6 +7,7 @@
 #![allow(clippy::manual_range_contains)]
 
 mod double;
+mod kernel;
 mod layout;
 mod message;
 mod partitions;
@@ -22,6 +24,7 @@ pub mod script;
 pub mod tally;
 
 pub use double::{back, forward, DoubleSegment};
+pub use kernel::{read_kernel, Kernel};
 pub use layout::Layout;
 pub use message::read_message;
 pub use partitions::Partitions;

@@ -1,9 +1,10 @@
 //! Counts what a script brings up: each call's outcomes, each clause of a refusal, each rule of the tables broken alone.
-//! The clauses and rules are found here a second time, from the question and the tables, not by the library.
+//! The clauses and rules are found here a second time, from the question and the tables, not by the library. For kernel
+//! text the comment before a question says what it breaks.
 
 use std::collections::BTreeMap;
 
-use crate::script::{parse, Line, Question, Session, Tables, MOST_BYTES};
+use crate::script::{parse, Line, Question, Session, Tables, MOST_KERNEL};
 use crate::DoubleSegment;
 
 const E15: u128 = 1_000_000_000_000_000;
@@ -20,21 +21,29 @@ pub struct Tally {
     pub outcomes: BTreeMap<String, u64>,
     /// Questions refused 1, 2 or 3 for one rule alone.
     pub rules: BTreeMap<&'static str, u64>,
+    /// Kernel texts, and those of them answered.
+    pub kernels: u64,
+    pub kernels_answered: u64,
+    /// Comments before kernel texts that say another outcome, with the outcome.
+    pub unexpected: Vec<String>,
 }
 
 pub fn tally(script: &[u8]) -> Tally {
     let mut tally = Tally::default();
     let mut session = Session::new();
-    let mut buffer = [0; MOST_BYTES];
+    let mut buffer = [0; MOST_KERNEL];
     let mut answer = vec![];
+    let mut comment = String::new();
     for line in script.split(|&byte| byte == 10) {
         answer.clear();
         session.line(line, &mut answer);
         match parse(line, &mut buffer) {
             _ if answer.is_empty() => {}
+            Some(Line::Ask(Question::ReadKernel(_))) => tally.note_kernel(&comment, &answer),
             Some(Line::Ask(question)) => tally.note(&session.tables, question, &answer),
             _ => tally.bad_lines += 1,
         }
+        comment = line.strip_prefix(b"# ").map_or(String::new(), |text| String::from_utf8_lossy(text).into_owned());
     }
     tally
 }
@@ -61,6 +70,30 @@ impl Tally {
         *self.outcomes.entry(outcome).or_insert(0) += 1;
     }
 
+    /// The comment has the outcome, a colon and the clause.
+    fn note_kernel(&mut self, comment: &str, answer: &[u8]) {
+        let answer = String::from_utf8_lossy(answer);
+        let mut words = answer.split(' ');
+        let (first, second) = (words.next().unwrap_or(""), words.next().unwrap_or(""));
+        self.questions += 1;
+        self.kernels += 1;
+        self.answered += u64::from(first == "ok");
+        self.kernels_answered += u64::from(first == "ok");
+        let (outcome, number) =
+            if first == "ok" { ("ok".to_string(), "ok") } else { (["refused ", second].concat(), second) };
+        let mut parts = comment.splitn(2, ": ");
+        let clause = match (parts.next(), parts.next()) {
+            (Some(expected), Some(clause)) => {
+                if expected != number {
+                    self.unexpected.push(format!("{}: {}", comment, outcome));
+                }
+                [", ", clause].concat()
+            }
+            _ => String::new(),
+        };
+        *self.outcomes.entry(["read-kernel ", &outcome, &clause].concat()).or_insert(0) += 1;
+    }
+
     fn rule(&mut self, faults: &[&'static str]) {
         if let [fault] = faults {
             *self.rules.entry(fault).or_insert(0) += 1;
@@ -80,6 +113,7 @@ fn name(question: &Question) -> &'static str {
         Question::StepsBack => "steps-back",
         Question::Forward { .. } => "forward",
         Question::Back { .. } => "back",
+        Question::ReadKernel(_) => "read-kernel",
     }
 }
 
@@ -168,6 +202,19 @@ fn double_clause(segment: &DoubleSegment, msf: u64, given: f64, own: f64, above:
         [one] => one,
         _ => "several",
     }
+}
+
+/// What tables break first: a label of the samples of kernel text.
+pub fn first_fault(tables: &Tables) -> String {
+    let none: fn(&Tables) -> Vec<&'static str> = |_| vec!["ok: tables"];
+    for faults in [layout_faults, partition_faults, segment_faults, none] {
+        match faults(tables)[..] {
+            [] => {}
+            [fault] => return fault.to_string(),
+            [first, ..] => return [&first[..2], " several"].concat(),
+        }
+    }
+    unreachable!("sound tables have a label")
 }
 
 fn layout_faults(tables: &Tables) -> Vec<&'static str> {

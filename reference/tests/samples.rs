@@ -1,12 +1,53 @@
 //! The generator brings up every outcome, and the stored samples are its.
 
-use reference::generate::{fresh, script, tables, STORED_COUNT, STORED_SEED};
+use reference::generate::{fresh, fresh_kernels, script, tables, STORED_COUNT, STORED_SEED};
 use reference::random::Random;
 use reference::script::answers;
 use reference::steps_back;
 use reference::tally::tally;
 
 const FEWEST: u64 = 20;
+
+/// Kernel text: what the comment before a question says, at least 20 times.
+const KERNELS: &[&str] = &[
+    "ok, another name|ok, first line|ok, comments|ok, a line of up to 132 bytes|ok, a name of up to 32 bytes\
+     |ok, a string of up to 80 characters|ok, a marker in data|ok, a clock's number|ok, an ID|ok, a type or time system\
+     |ok, numbers in other forms|ok, exponents|ok, tables|ok, room|ok",
+    "18, first line|18, before 19",
+    "19, no operator|19, no name|19, no value|19, a bare word|19, behind a value|19, behind a list|19, a name's end\
+     |19, an empty list|19, parentheses|19, no marker|19, a string not closed|19, a string's end|19, strings and others\
+     |19, no number|19, a line of over 132 bytes|19, a name of over 32 bytes|19, a string of over 80 characters\
+     |19, a byte|19, open at a block's end|19, open at the text's end",
+    "19, a name missing|19, a name twice|19, +=|19, several values|19, a string for a number|19, a date for a number\
+     |19, an ID|19, another type|19, another time system|19, before 20|19",
+    "20, n not whole|20, delimiter not whole|20, modulus not whole|20, offset not whole|20, start not whole\
+     |20, end not whole|20, count not whole|20, time not whole|20, rate not whole",
+    "20, n too large|20, delimiter too large|20, modulus too large|20, offset too large|20, start too large\
+     |20, end too large|20, count too large|20, time too large|20, rate too large",
+    "20, n below 0|20, delimiter below 0|20, modulus below 0|20, offset below 0|20, start below 0|20, end below 0\
+     |20, count below 0|20, time too small|20, rate below 0|20, before 1|20",
+    "1, lists not n long|1, before 2|1|2, before 3|2|3, not in threes|3, before 16|3",
+    "16, moduli|16, offsets|16, starts|16, ends|16, counts|16, times|16, rates|16, all",
+];
+
+/// Fewer samples: long ones, single numbers, pairs of refusals that are not neighbours, tables with several faults.
+const RARE: &[&str] = &[
+    "ok, a time|ok, a rate|ok, no time system|ok, two clocks|ok, n|ok, zeros|ok, ends of lines|ok, a long marker\
+     |ok, long lines|2, over 9,999 rows|1, several|2, several|3, several|18|16",
+    "18, before 20|18, before 1|18, before 2|18, before 3|18, before 16|19, before 1|19, before 2|19, before 3\
+     |19, before 16|20, before 2|20, before 3|20, before 16|1, before 3|1, before 16|2, before 16",
+];
+
+/// Rules that kernel text cannot break: each name has a value, and 10,001 rows are too long for a line.
+const NO_KERNEL: &[&str] = &["2: no row", "2: over 9,999 rows", "3: no row", "3: over 10,000 rows", "3: unequal lists"];
+
+fn kernels(lists: &[&str]) -> Vec<String> {
+    let outcome = |outcome: &str| match outcome.strip_prefix("ok") {
+        Some(clause) => format!("read-kernel ok{}", clause),
+        None => format!("read-kernel refused {}", outcome),
+    };
+    lists.iter().flat_map(|list| list.split('|')).map(outcome).collect()
+}
 
 /// Each call with the answers and the refusals it can give, clause by clause.
 fn outcomes() -> Vec<String> {
@@ -67,6 +108,11 @@ const RULES: &[&str] = &[
     "3: the last line too late",
 ];
 
+/// A rule as the clause of a kernel text's refusal.
+fn kernel_rule(rule: &str) -> String {
+    ["read-kernel refused ", &rule.replacen(": ", ", ", 1)].concat()
+}
+
 #[test]
 fn every_outcome_comes_up() {
     let script = script(STORED_SEED, STORED_COUNT);
@@ -74,8 +120,13 @@ fn every_outcome_comes_up() {
     assert!(tally.questions >= 20_000);
     assert!(tally.answered * 100 >= tally.questions * 40, "{} of {}", tally.answered, tally.questions);
     assert!(tally.bad_lines >= 200);
-    assert!(script.len() < 6_000_000, "{} bytes", script.len());
-    let outcomes = outcomes();
+    assert!(tally.kernels >= 3_000);
+    assert!(tally.kernels_answered * 100 >= tally.kernels * 40, "{} of {}", tally.kernels_answered, tally.kernels);
+    assert!(tally.unexpected.is_empty(), "{:?}", tally.unexpected);
+    assert!(script.len() + answers(&script).len() < 11_000_000, "{} bytes", script.len());
+    let mut outcomes = outcomes();
+    outcomes.extend(kernels(KERNELS));
+    outcomes.extend(RULES.iter().filter(|rule| !NO_KERNEL.contains(rule)).map(|rule| kernel_rule(rule)));
     for outcome in &outcomes {
         let times = tally.outcomes.get(outcome).copied().unwrap_or(0);
         assert!(times >= FEWEST, "{} samples of {}", times, outcome);
@@ -84,6 +135,12 @@ fn every_outcome_comes_up() {
         let times = tally.rules.get(rule).copied().unwrap_or(0);
         assert!(times >= FEWEST, "{} samples of rule {}", times, rule);
     }
+    let rare = kernels(RARE);
+    for outcome in &rare {
+        assert!(tally.outcomes.contains_key(outcome), "no sample of {}", outcome);
+    }
+    outcomes.extend(rare);
+    outcomes.push(kernel_rule("3: unequal lists"));
     // And no other outcome, such as 4 from a message; several faults of a double at once are left out here.
     for outcome in tally.outcomes.keys().filter(|outcome| !outcome.ends_with("several")) {
         assert!(outcomes.contains(outcome), "{}", outcome);
@@ -106,6 +163,13 @@ fn a_seed_gives_one_script() {
         assert!(tally.questions >= 500);
         assert_eq!(tally.questions + tally.bad_lines, lines);
     }
+    // Random kernel texts: answered in the main, and short.
+    assert!(fresh_kernels(7, 500) == fresh_kernels(7, 500));
+    let script = fresh_kernels(9, 4_000);
+    let tally = tally(&script);
+    assert_eq!((tally.kernels, tally.bad_lines), (4_000, 0));
+    assert!(tally.kernels_answered > 2_000 && tally.kernels_answered < 3_500);
+    assert!(script.len() < 4_000 * 2_500);
 }
 
 #[test]

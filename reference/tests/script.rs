@@ -108,10 +108,10 @@ fn bytes_and_doubles() {
 #[test]
 fn long_lines() {
     let line = |len: usize| ["time-of ", &"0".repeat(len - 11), "600"].concat();
-    assert_eq!(ask_a(&line(8_192)), "ok 1000\n");
-    assert_eq!(ask_a(&[&line(8_192), "\ntime-of 1\n"].concat()), "ok 1000\nok -997\n");
-    assert_eq!(ask_a(&line(8_193)), "bad line\n");
-    for len in [8_193, 8_194, 16_385, 16_386, 16_387, 100_000] {
+    assert_eq!(ask_a(&line(140_000)), "ok 1000\n");
+    assert_eq!(ask_a(&[&line(140_000), "\ntime-of 1\n"].concat()), "ok 1000\nok -997\n");
+    assert_eq!(ask_a(&line(140_001)), "bad line\n");
+    for len in [140_001, 140_002, 280_001, 280_002, 280_003, 1_000_000] {
         assert_eq!(ask_a(&[&line(len), "\ntime-of 1\n"].concat()), "bad line\nok -997\n", "{}", len);
     }
 }
@@ -127,4 +127,67 @@ fn a_list_holds_10_001_entries() {
         assert_eq!(ask(&[lines.repeat(10_001), format!("{}\n", empty), lines.repeat(10_002)].concat()), "bad line\n");
     }
     assert_eq!(ask(&"count 5\n".repeat(10_003)), "bad line\nbad line\n");
+}
+
+/// Table A as kernel text, in hex.
+fn kernel_a() -> String {
+    let text = "KPL/SCLK\n\\begindata\nSCLK_KERNEL_ID=@\nSCLK_DATA_TYPE_7=1\nSCLK01_TIME_SYSTEM_7=2\nSCLK01_N_FIELDS_7=2\n\
+                SCLK01_MODULI_7=(100 10)\nSCLK01_OFFSETS_7=(0 0)\nSCLK01_OUTPUT_DELIM_7=1\nSCLK_PARTITION_START_7=(0 200)\n\
+                SCLK_PARTITION_END_7=(500 900)\nSCLK01_COEFFICIENTS_7=(0 -1E-6 25E-9 600 1E-6 30E-9)\n\\begintext\n";
+    text.bytes().map(|byte| format!("{:02x}", byte)).collect()
+}
+
+#[test]
+fn kernel_questions() {
+    let a = kernel_a();
+    let answers = ask(&format!("read-kernel 7 3 3 2 2 3 2 2 {}\nread-kernel -007 1 0 2 2 3 2 2 {}\n", a, a));
+    let expected = "ok 2 1 2 2 2 100,10,99 0,0,99 0,200 500,900 0,600,99 -1000,1000 25000,30000\n\
+                    refused 16 99 . 99,99 99,99 99,99,99 99,99 99,99\n";
+    assert_eq!(answers, expected);
+    // The script's tables are neither asked nor changed.
+    let before = "time-of 600\nread-stamp 35302e31\nsteps-back\n";
+    assert_eq!(ask_a(&format!("{}read-kernel 7 2 2 2 2 2 2 2 4b\n{}", before, before)).lines().count(), 7);
+    assert_eq!(
+        ask_a(&format!("read-kernel 7 2 2 2 2 2 2 2 {}\n{}", a, before)).lines().skip(1).collect::<Vec<_>>(),
+        ["ok 1000", "ok 801", "ok no"]
+    );
+    assert_eq!(ask(&format!("read-kernel 7 2 2 2 2 2 2 2 {}\nsteps-back", a)).lines().nth(1), Some("refused 1"));
+}
+
+#[test]
+fn kernel_lines() {
+    assert_eq!(ask("read-kernel 0 0 0 0 0 0 0 0 ."), "refused 18 . . . . . . .\n");
+    let forty = ["99"; 40].join(",");
+    assert_eq!(
+        ask("read-kernel 9223372036854775807 40 0 0 0 0 0 040 ."),
+        format!("refused 18 {} . . . . . {}\n", forty, forty)
+    );
+    assert_eq!(ask("read-kernel -9223372036854775808 0 0 0 0 0 1 0 4b"), "refused 18 . . . . . 99 .\n");
+    for bad in [
+        "read-kernel",
+        "read-kernel 7 2 2 2 2 2 2 2",
+        "read-kernel 7 2 2 2 2 2 2 .",
+        "read-kernel 7 2 2 2 2 2 2 2 2 .",
+        "read-kernel 7 41 2 2 2 2 2 2 .",
+        "read-kernel 7 2 2 2 2 2 2 41 .",
+        "read-kernel 7 2 2 -1 2 2 2 2 .",
+        "read-kernel 9223372036854775808 2 2 2 2 2 2 2 .",
+        "read-kernel -9223372036854775809 2 2 2 2 2 2 2 .",
+        "read-kernel 7 2 2 2 2 2 2 2 4",
+        "read-kernel 7 2 2 2 2 2 2 2 4B",
+        "read-kernel 7 2 2 2 2 2 2 2 . ",
+    ] {
+        assert_eq!(ask(bad), "bad line\n", "{}", bad);
+    }
+    // 65,600 bytes, and a line of 140,000.
+    let padded = |len: usize| [kernel_a(), "78".repeat(len - kernel_a().len() / 2)].concat();
+    let ok = "ok 2 1 2 2 2 100,10 0,0 0,200 500,900 0,600 -1000,1000 25000,30000\n";
+    assert_eq!(ask(&["read-kernel 7 2 2 2 2 2 2 2 ", &padded(65_600)].concat()), ok);
+    assert_eq!(ask(&["read-kernel 7 2 2 2 2 2 2 2 ", &padded(65_601)].concat()), "bad line\n");
+    let line = |len: usize| {
+        let back = ["7 2 2 2 2 2 2 2 ", &padded(65_600)].concat();
+        ["read-kernel ", &"0".repeat(len - 12 - back.len()), &back].concat()
+    };
+    assert_eq!(ask(&line(140_000)), ok);
+    assert_eq!(ask(&line(140_001)), "bad line\n");
 }

@@ -54,4 +54,5 @@ fn main() {
         b"count-at-10000",
     );
     rows::bench_steps(timed, &counts, &times, &rates, asked);
+    bench_kernel::bench(timed);
 }

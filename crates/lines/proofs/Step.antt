@@ -13,13 +13,13 @@ use Rattle.base.proofs.Tests.{by-test}
 use Rattle.lines.specs.Lines.{lineEnd, keptOf}
 use Rattle.lines.specs.Steps.{lineIn, endsIn, takenIn, keptWith, nextLine, lineAfter}
 
-line-front : (bs : List ℕ) → take (length (lineIn bs)) bs ≡ lineIn bs
+pub line-front : (bs : List ℕ) → take (length (lineIn bs)) bs ≡ lineIn bs
 unfolding lineIn
 line-front [] = refl
 line-front (b ∷ bs) = by-test (eqb b lineEnd) (λ t. rw t) (λ f. rw (f, line-front bs))
 
 -- a line ended in a chunk is shorter than the chunk
-ends-short : (bs : List ℕ) → endsIn bs ≡ ltb (length (lineIn bs)) (length bs)
+pub ends-short : (bs : List ℕ) → endsIn bs ≡ ltb (length (lineIn bs)) (length bs)
 unfolding lineIn endsIn
 ends-short [] = refl
 ends-short (b ∷ bs) =

@@ -41,7 +41,7 @@ pub fn next(chunk: &[u8], at: usize, line: &mut [u8], kept: usize) -> LineStep
 }
 
 // The place of the next byte 10, or the chunk's length.
-fn line_end(chunk: &[u8], at: usize) -> usize
+pub fn line_end(chunk: &[u8], at: usize) -> usize
     requires { ⌜ at ≤ length (now chunk) ⌝ }
     ensures { λ r. ⌜ r ≡ at + length (lineIn (drop at (now (chunk .entry)))) ⌝ }
     ensures { λ r. ⌜ r ≤ length (now (chunk .entry)) ⌝ }

@@ -1,7 +1,7 @@
-// The questions of a script, each over one public call. Each function puts its answer at `place`, and answers the place after it.
+// The questions of a script over its tables, each over one public call. Each function puts its answer at `place`, and answers the place after it.
 ghost use Prim.Native.Nat.{_≤_};
 ghost use lib.ListN.{length};
-ghost use Rattle.answers.specs.Places.{Put};
+ghost use Rattle.put.specs.Places.{Put};
 use rules::DoubleSegment;
 use rules::Layout;
 use script_names::Numbers;
@@ -129,7 +129,7 @@ fn first_bytes(bytes: &[u8; MOST_BYTES], n: usize) -> &[u8]
 fn print_count(numbers: &Numbers, layout: Layout, out: &mut [u8], place: usize) -> usize
     ensures { λ r. ⌜ Put place (now (out .entry)) r ⌝ }
 {
-    let size = lent_length(numbers[2]);
+    let size = lent_length(numbers[2], MOST_LENT as u64);
     let mut buffer = [byte_of(numbers[1]); MOST_LENT];
     let lent = &mut buffer[0..size];
     let answer = print::print_count(layout, numbers[0], lent);
@@ -147,7 +147,7 @@ fn print_stamp(
 ) -> usize
     ensures { λ r. ⌜ Put place (now (out .entry)) r ⌝ }
 {
-    let size = lent_length(numbers[2]);
+    let size = lent_length(numbers[2], MOST_LENT as u64);
     let mut buffer = [byte_of(numbers[1]); MOST_LENT];
     let lent = &mut buffer[0..size];
     let answer = print::print_stamp(layout, starts, ends, numbers[0], lent);

@@ -1,4 +1,4 @@
-// The refusals of document 01's table "What is refused", by name. Code refuses with one of these and writes no number.
+// The refusals of the table "What is refused", by name. Code refuses with one of these and writes no number.
 use rules::Refusal;
 
 pub const LAYOUT: Refusal = Refusal { number: 1 };
@@ -31,6 +31,14 @@ pub const TIME_OUT_OF_RANGE: Refusal = Refusal { number: 14 };
 
 pub const DOUBLE_FORM: Refusal = Refusal { number: 15 };
 
+// A lent buffer or list.
 pub const BUFFER_TOO_SHORT: Refusal = Refusal { number: 16 };
 
 pub const MESSAGE: Refusal = Refusal { number: 17 };
+
+// Of a kernel text: its first line; an assignment, or a name that is missing or given twice; a number that is not exact in our units.
+pub const FIRST_LINE: Refusal = Refusal { number: 18 };
+
+pub const ASSIGNMENT: Refusal = Refusal { number: 19 };
+
+pub const NOT_EXACT: Refusal = Refusal { number: 20 };

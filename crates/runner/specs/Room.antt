@@ -2,9 +2,9 @@
 use Prim.Native.Nat.{ℕ}
 use Rattle.lines.specs.Lines.{roomFor}
 
--- "a line over 8,192 bytes"
+-- "A line may have up to 140,000 bytes"
 abbrev pub longestLine : ℕ
-longestLine = 8192
+longestLine = 140000
 
 abbrev pub lineBuffer : ℕ
 lineBuffer = roomFor longestLine

@@ -17,8 +17,8 @@ use script_tables::MOST_ENTRIES;
 use script_tables::Sizes;
 use script_tables::TimeList;
 
-// An answer has at most 256 bytes in hexadecimal, a word and a number.
-const LONGEST_ANSWER: usize = 600;
+// An answer has at most seven lists of 40 numbers of 20 digits, and six words before them.
+const LONGEST_ANSWER: usize = 8192;
 
 // Where the next line's kept bytes and the next answer go on.
 pub struct Places {
@@ -31,7 +31,7 @@ pub fn run() {
     let mut sizes = [0usize; script_tables::LIST_COUNT];
     let mut lists = [0u64; script_tables::LISTS_ROOM];
     let mut times = [0i64; MOST_ENTRIES];
-    let mut line = [0u8; LONGEST_LINE + 1];
+    let mut line = line_room();
     let kept = answer_input(&mut line, &mut layout, &mut sizes, &mut lists, &mut times);
     if kept > 0 {
         answer_last(
@@ -42,6 +42,12 @@ pub fn run() {
             &mut times,
         );
     }
+}
+
+fn line_room() -> [u8; LONGEST_LINE + 1]
+    ensures { λ r. ⌜ lineBuffer ≡ length r ⌝ }
+{
+    [0; LONGEST_LINE + 1]
 }
 
 // Reads to the end of input; where it cannot be read it has ended. Every line that has ended is answered before more input is

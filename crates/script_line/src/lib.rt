@@ -1,7 +1,7 @@
 // What one line of a script does: it changes the tables, or it is a question and has an answer.
 ghost use Prim.Native.Nat.{_≤_};
 ghost use lib.ListN.{length};
-ghost use Rattle.answers.specs.Places.{Put};
+ghost use Rattle.put.specs.Places.{Put};
 ghost use Rattle.script_tables.specs.Sizes.{Fit};
 use script_names::Line;
 use script_names::Numbers;
@@ -16,7 +16,7 @@ use script_tables::Sizes;
 use script_tables::Taken;
 use script_tables::TimeList;
 
-pub const LONGEST_LINE: usize = 8192;
+pub const LONGEST_LINE: usize = 140_000;
 
 // Changes the tables as the line says, or puts its answer into the output, and answers the place after it.
 pub fn answer_line(
@@ -62,6 +62,7 @@ pub fn answer_line(
             out,
             place,
         ),
+        Line::Kernel => kernel_question::read_kernel(&numbers, line, rest, out, place),
         Line::PassedOver => place,
         Line::Bad => answers::put_bad(out, place),
     }

@@ -22,7 +22,7 @@ pub enum TableLine {
     Rate,
 }
 
-// A line that has an answer.
+// A line that has an answer over the tables.
 pub enum Question {
     ReadText,
     ReadStamp,
@@ -39,6 +39,7 @@ pub enum Question {
 pub enum Line {
     Table(TableLine),
     Ask(Question),
+    Kernel,
     PassedOver,
     Bad,
 }
@@ -57,7 +58,7 @@ pub type Numbers = [u64; MOST_NUMBERS];
 // Room for a name and a blank.
 const NAME_ROOM: usize = 13;
 
-const LINES: usize = 18;
+const LINES: usize = 19;
 
 type Row = [u8; NAME_ROOM + MOST_NUMBERS];
 
@@ -65,6 +66,7 @@ type Row = [u8; NAME_ROOM + MOST_NUMBERS];
 //     n  a number from 0 to 2^64 - 1
 //     b  a number from 0 to 255
 //     l  the length of a lent buffer, 0 to 256
+//     e  how many entries a lent list has, 0 to 40
 //     t  a time from -2^63 to 2^63 - 1, which is read as its ordinal
 //     d  the 16 hexadecimal digits of a double's bits
 //     h  bytes in hexadecimal; always the last
@@ -87,6 +89,7 @@ const ROWS: [Row; LINES] = [
     *b"steps-back                         ",
     *b"forward      dddnn                 ",
     *b"back         dddnd                 ",
+    *b"read-kernel  teeeeeeeh             ",
 ];
 
 fn line_of(row: usize) -> Line {
@@ -109,6 +112,7 @@ fn line_of(row: usize) -> Line {
         15 => Line::Ask(Question::StepsBack),
         16 => Line::Ask(Question::Forward),
         17 => Line::Ask(Question::Back),
+        18 => Line::Kernel,
         _ => Line::Bad,
     }
 }
@@ -260,6 +264,7 @@ fn word_at(line: &[u8], at: usize, form: u8) -> Word
         b'n' => numbers::decimal(line, from, u64::MAX),
         b'b' => numbers::decimal(line, from, 255),
         b'l' => numbers::decimal(line, from, 256),
+        b'e' => numbers::decimal(line, from, 40),
         b't' => numbers::time(line, from),
         b'd' => numbers::bits(line, from),
         _ => Word::Bad,

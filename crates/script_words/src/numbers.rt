@@ -152,14 +152,14 @@ pub fn byte_of(number: u64) -> u8
     (number % 256) as u8
 }
 
-// A number of the form l.
-pub fn lent_length(number: u64) -> usize
-    ensures { λ r. ⌜ r ≡ min number 256 ⌝ }
+// A number of the form l or e.
+pub fn lent_length(number: u64, most: u64) -> usize
+    ensures { λ r. ⌜ r ≡ min number most ⌝ }
 {
-    if number < 256 {
+    if number < most {
         return number as usize;
     }
-    256
+    most as usize
 }
 
 // Every pattern above that of infinity, the sign aside, means NaN.

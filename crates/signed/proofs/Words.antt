@@ -52,6 +52,15 @@ module _ (x : ℤ) (f : SFits w64 x) where
   unfolding ordinal
   complement-ordinal h = rw (complement h, ← negative x (rw (toZ-ofZ f) at h)) (omega arith)
 
+  pub complement-next : Below → Fits w64 (natAbs (toZ w64 (2 ^ 64 - 1 - ofZ w64 x)) + 1)
+  complement-next h = rw (complement h) (record { fits = omega (arith, f .sfits) })
+
+  pub complement-magnitude : Below → natAbs (toZ w64 (2 ^ 64 - 1 - ofZ w64 x)) + 1 ≡ natAbs x
+  complement-magnitude h = rw (complement h, ← negative x (rw (toZ-ofZ f) at h)) (omega arith)
+
+  pub same-magnitude : NotBelow → natAbs (toZ w64 (ofZ w64 x)) ≡ natAbs x
+  same-magnitude h = rw (toZ-ofZ f)
+
   pub same-cast : NotBelow → T (nonNeg (toZ w64 (ofZ w64 x))) × Fits w64 (natAbs (toZ w64 (ofZ w64 x)))
   same-cast h = rw (same h) (tt, record { fits = omega (arith, f .sfits) })
 

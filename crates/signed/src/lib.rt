@@ -1,8 +1,9 @@
-// Signed numbers: how much later one time is than another, a time so much later, and a number in offset binary.
+// Signed numbers: how much later one time is than another, a time so much later, a number without its sign, and one in offset binary.
 // Only this crate has signed arithmetic.
 ghost use mathlib.Core.Path.{_≡_};
 ghost use mathlib.Core.Bool.{true};
 ghost use Prim.Native.Nat.{_^_, _<_};
+ghost use lib.IntN.{natAbs};
 ghost use lib.Signed.{leZ, mag};
 ghost use Rattle.base.specs.Signed.{ordinal as ordinalOf, later as laterOf, elapsed as elapsedOf};
 
@@ -22,8 +23,17 @@ pub fn later(time: i64, distance: u64) -> i64
     from_ordinal(ordinal(time) + distance)
 }
 
-// The distance from the least i64.
+// The number without its sign.
+pub fn magnitude(x: i64) -> u64
+    ensures { λ r. ⌜ r ≡ natAbs x ⌝ }
+{
+    if x < 0 {
+        return (!x) as u64 + 1;
+    }
+    x as u64
+}
 
+// The distance from the least i64.
 pub fn ordinal(x: i64) -> u64
     ensures { λ r. ⌜ r ≡ ordinalOf (2 ^ 63) x ⌝ }
 {

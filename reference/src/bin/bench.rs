@@ -1,7 +1,10 @@
 //! The benchmark's questions, asked of the reference. Without a word it asks few of each and prints their checksums; with the
 //! word `time` it asks many and prints nanoseconds a call behind each checksum. The proved program `bench` does the same.
 
-use reference::{count_at, print_stamp, read_message, read_stamp, steps_back, time_of, Layout, Partitions, Segments};
+use std::fmt::Write;
+
+use reference::{count_at, print_stamp, read_kernel, read_message, read_stamp, steps_back, time_of};
+use reference::{Layout, Partitions, Segments};
 
 extern "C" {
     /// C's `clock`: microseconds of processor time. The proved program reads the same.
@@ -67,7 +70,33 @@ fn messages() -> Vec<u8> {
     all
 }
 
-fn line(name: &str, times: u64, timed: bool, ask: impl Fn(u64) -> u64) {
+/// The kernel text of a clock -77 with so many segments and partitions.
+fn kernel_text(segments: u64, partitions: u64) -> Vec<u8> {
+    let mut text = String::from(
+        "KPL/SCLK\n\\begindata\nSCLK_KERNEL_ID = ( @2026-11-16 )\nSCLK_DATA_TYPE_77 = ( 1 )\n\
+         SCLK01_TIME_SYSTEM_77 = ( 2 )\nSCLK01_N_FIELDS_77 = ( 3 )\nSCLK01_MODULI_77 = ( 65536 60 800 )\n\
+         SCLK01_OFFSETS_77 = ( 0 0 1 )\nSCLK01_OUTPUT_DELIM_77 = ( 2 )\nSCLK_PARTITION_START_77 = (\n",
+    );
+    for i in 0..partitions {
+        writeln!(text, "  {:010}", i).unwrap();
+    }
+    text += ")\nSCLK_PARTITION_END_77 = (\n";
+    for i in 0..partitions {
+        let end = LAST - i;
+        writeln!(text, "  {}.{:09}E+09", end / 1_000_000_000, end % 1_000_000_000).unwrap();
+    }
+    text += ")\nSCLK01_COEFFICIENTS_77 = (\n";
+    for i in 0..segments {
+        let (time, rate) = (i * 63_000_000_007, 960_000_000 + i % 7);
+        let (seconds, ns) = (time / 1_000_000_000, time % 1_000_000_000);
+        let (first, others) = (rate / 100_000_000, rate % 100_000_000);
+        writeln!(text, "  {:014} {:07}.{:09} {}.{:08}E-04", i * 3_000_000_000, seconds, ns, first, others).unwrap();
+    }
+    text += ")\n\\begintext\n";
+    text.into_bytes()
+}
+
+fn line(name: &str, times: u64, timed: bool, mut ask: impl FnMut(u64) -> u64) {
     let start = unsafe { clock() };
     let mut sum = 0;
     let mut x = 1;
@@ -136,5 +165,37 @@ fn main() {
                 }
             });
         }
+    }
+
+    let (mut moduli, mut offsets) = ([0; 10], [0; 10]);
+    let (mut starts, mut ends) = (vec![0; 10_000], vec![0; 10_000]);
+    let (mut counts, mut times, mut rates) = (vec![0; 10_001], vec![0; 10_001], vec![0; 10_001]);
+    for (name, segments, partitions, asked) in [
+        ("read-kernel-100", 100, 99, many(20_000, 20)),
+        ("read-kernel-10000", 10_000, 9_999, many(200, 2)),
+        ("read-kernel-10001", 10_001, 9_999, many(200, 2)),
+    ] {
+        let text = kernel_text(segments, partitions);
+        line(name, asked, timed, |x| {
+            let result = read_kernel(
+                &unknown(&text)[..],
+                -77,
+                &mut moduli,
+                &mut offsets,
+                &mut starts,
+                &mut ends,
+                &mut counts,
+                &mut times,
+                &mut rates,
+            );
+            let (row, segment) = ((x % partitions) as usize, (x % segments) as usize);
+            match result {
+                Ok(kernel) => {
+                    let line = counts[segment] + times[segment] as u64 + rates[segment];
+                    kernel.n * 1_000_003 + starts[row] + ends[row] + line
+                }
+                Err(refusal) => u64::from(refusal),
+            }
+        });
     }
 }

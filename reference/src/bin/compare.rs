@@ -3,13 +3,15 @@
 use std::io::{Read, Write};
 use std::process::{Command, ExitCode, Stdio};
 
-use reference::generate::{fresh, put_tables};
+use reference::generate::{fresh, fresh_kernels, put_tables};
 use reference::random::Random;
 use reference::script::{answers, Session};
 
-const USAGE: &str = "compare --program PATH --seed S --questions N";
+const USAGE: &str = "compare --program PATH --seed S --questions N [--only kernel]";
 /// Questions asked of one run of the program.
 const CHUNK: u64 = 25_000;
+/// Kernel texts are longer.
+const KERNELS: u64 = 10_000;
 
 fn main() -> ExitCode {
     match run() {
@@ -25,7 +27,7 @@ fn main() -> ExitCode {
 }
 
 fn run() -> Result<u64, String> {
-    let (mut program, mut seed, mut questions) = (None, None, None);
+    let (mut program, mut seed, mut questions, mut kernels) = (None, None, None, false);
     let mut words = std::env::args().skip(1);
     while let Some(word) = words.next() {
         let value = words.next().ok_or(USAGE)?;
@@ -33,6 +35,7 @@ fn run() -> Result<u64, String> {
             "--program" => program = Some(value),
             "--seed" => seed = Some(value.parse::<u64>().map_err(|_| USAGE)?),
             "--questions" => questions = Some(value.parse::<u64>().map_err(|_| USAGE)?),
+            "--only" if value == "kernel" => kernels = true,
             _ => return Err(USAGE.to_string()),
         }
     }
@@ -41,8 +44,8 @@ fn run() -> Result<u64, String> {
     let mut seeds = Random::new(seed);
     let mut compared = 0;
     while left > 0 {
-        let (chunk_seed, asked) = (seeds.word(), left.min(CHUNK));
-        let script = fresh(chunk_seed, asked);
+        let (chunk_seed, asked) = (seeds.word(), left.min(if kernels { KERNELS } else { CHUNK }));
+        let script = if kernels { fresh_kernels(chunk_seed, asked) } else { fresh(chunk_seed, asked) };
         let (expected, given) = ask(&program, &script)?;
         if expected != given {
             return Err(format!("chunk seed {}, {} questions\n{}", chunk_seed, asked, difference(&script, &given)));

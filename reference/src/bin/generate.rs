@@ -46,6 +46,10 @@ fn run() -> Result<(), String> {
         eprintln!("{:>8} rule {}", times, rule);
     }
     eprintln!("{:>8} questions, {} answered, {} bad lines", tally.questions, tally.answered, tally.bad_lines);
+    eprintln!("{:>8} kernel texts, {} answered", tally.kernels, tally.kernels_answered);
+    for unexpected in &tally.unexpected {
+        eprintln!("unexpected {}", unexpected);
+    }
     eprintln!("{:>8} bytes of script, {} bytes of answers", script.len(), answers.len());
     Ok(())
 }

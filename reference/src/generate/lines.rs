@@ -1,7 +1,10 @@
 //! Bad lines, good lines at the protocol's limits, comments and empty lines.
 
 use super::writer::Writer;
-use crate::script::{Question, LONGEST_LINE, MOST_BYTES};
+use crate::script::{Question, MOST_BYTES};
+
+/// Lines around this length are as good as any.
+const LONG: usize = 8_192;
 
 /// Lines that are none of the protocol's, or have a number outside its range.
 #[rustfmt::skip]
@@ -101,29 +104,29 @@ impl Writer {
         self.wide_numbers();
     }
 
-    /// Lines of 8,192 bytes and one more, texts and messages of 2,000 bytes and one more.
+    /// Lines of 8,192 bytes and one more, which was once the limit; texts and messages of 2,000 bytes and one more.
     fn long_lines(&mut self) {
         for (front, back) in [("time-of ", "600"), ("count-at -", "997"), ("print-stamp ", "500 1 6"), ("start ", "1")]
         {
-            for len in [LONGEST_LINE, LONGEST_LINE + 1] {
+            for len in [LONG, LONG + 1] {
                 let zeros = "0".repeat(len - front.len() - back.len());
                 let line = [front, &zeros, back].concat();
                 if front == "start " {
-                    // Good or bad, the entry does not stay.
+                    // The entry does not stay.
                     self.line(line.as_bytes());
                     self.line(b"end 2");
                     self.ask(Question::PrintStamp { e: 1_201, fill: 0, len: 9 });
                     let partitions = self.tables.clone();
                     self.partitions(partitions.partitions());
                 } else {
-                    self.questions += u64::from(len == LONGEST_LINE);
+                    self.questions += 1;
                     self.line(line.as_bytes());
                 }
             }
         }
-        self.line(&[b'x'; 3 * LONGEST_LINE]);
+        self.line(&[b'x'; 3 * LONG]);
         self.ask(Question::TimeOf(1));
-        self.line(&[b"steps-back".to_vec(), vec![b' '; LONGEST_LINE]].concat());
+        self.line(&[b"steps-back".to_vec(), vec![b' '; LONG]].concat());
         self.ask(Question::StepsBack);
         for len in [MOST_BYTES - 1, MOST_BYTES, MOST_BYTES + 1] {
             for word in ["read-text ", "read-stamp ", "read-message "] {

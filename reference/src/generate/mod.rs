@@ -3,6 +3,7 @@
 mod broken;
 mod catalogue;
 mod doubles;
+mod kernels;
 mod large;
 mod lines;
 mod questions;
@@ -10,6 +11,7 @@ pub mod tables;
 mod texts;
 mod writer;
 
+use crate::random::Random;
 use broken::{break_layout, break_partitions, break_segments, LAYOUT_RULES, PARTITION_RULES, SEGMENT_RULES};
 pub use writer::put_tables;
 use writer::Writer;
@@ -28,6 +30,9 @@ pub fn script(seed: u64, count: u64) -> Vec<u8> {
         writer.block(30);
     }
     writer.any_stamp();
+    // Kernel text has a part of its own.
+    writer.random = Random::new(!seed);
+    kernels::all(&mut writer);
     writer.script.pop();
     writer.script
 }
@@ -43,6 +48,22 @@ pub fn fresh(seed: u64, count: u64) -> Vec<u8> {
     }
     while writer.questions < count {
         writer.block(120);
+        for _ in 0..6 {
+            writer.any_kernel();
+        }
+    }
+    writer.script
+}
+
+/// A script of random kernel texts.
+pub fn fresh_kernels(seed: u64, count: u64) -> Vec<u8> {
+    let mut writer = Writer::new(seed);
+    writer.raw = true;
+    if writer.random.below(64) == 0 {
+        kernels::all(&mut writer);
+    }
+    while writer.questions < count {
+        writer.any_kernel();
     }
     writer.script
 }

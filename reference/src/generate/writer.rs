@@ -3,7 +3,7 @@
 use std::io::Write;
 
 use crate::random::Random;
-use crate::script::{put_bytes, Question, Tables};
+use crate::script::{put_bytes, KernelQuestion, Question, Tables};
 use crate::{DoubleSegment, Layout, Partitions, Segments};
 
 pub struct Writer {
@@ -174,6 +174,14 @@ impl Writer {
                 self.segment(segment);
                 self.number(msf);
                 self.double(given);
+            }
+            Question::ReadKernel(KernelQuestion { clock, lent, text }) => {
+                self.word("read-kernel");
+                self.number(clock);
+                for len in lent {
+                    self.number(len);
+                }
+                self.bytes(" ", text);
             }
         }
         self.script.push(10);

@@ -7,17 +7,21 @@ mod tables;
 
 use std::io::{self, BufRead, Read, Write};
 
-pub use parse::{parse, Line, Question};
+pub use parse::{parse, KernelQuestion, Line, Question};
 pub use session::{put_bytes, Session};
 pub use tables::Tables;
 
-pub const LONGEST_LINE: usize = 8_192;
+pub const LONGEST_LINE: usize = 140_000;
 /// Of a text or message.
 pub const MOST_BYTES: usize = 2_000;
+/// Of a kernel text.
+pub const MOST_KERNEL: usize = 65_600;
 /// Of a list.
 pub const MOST_ENTRIES: usize = 10_001;
 /// Of a lent buffer.
 pub const MOST_LEN: usize = 256;
+/// Of a lent list.
+pub const MOST_LENT: usize = 40;
 
 /// Answers a whole script. However long a line is, no more than the longest good one and a byte are kept of it.
 pub fn run(mut input: impl BufRead, mut output: impl Write) -> io::Result<()> {

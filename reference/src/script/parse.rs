@@ -1,6 +1,6 @@
 //! Lines to questions and table entries.
 
-use super::{LONGEST_LINE, MOST_BYTES, MOST_LEN};
+use super::{LONGEST_LINE, MOST_BYTES, MOST_KERNEL, MOST_LEN, MOST_LENT};
 use crate::{DoubleSegment, Layout};
 
 /// A good line.
@@ -28,10 +28,19 @@ pub enum Question<'a> {
     StepsBack,
     Forward { segment: DoubleSegment, msf: u64, given: u64 },
     Back { segment: DoubleSegment, msf: u64, given: f64 },
+    ReadKernel(KernelQuestion<'a>),
 }
 
-/// Reads a line; none for a bad one. Bytes of a text or message go to the buffer.
-pub fn parse<'a>(line: &[u8], buffer: &'a mut [u8; MOST_BYTES]) -> Option<Line<'a>> {
+#[derive(Clone, Copy)]
+pub struct KernelQuestion<'a> {
+    pub clock: i64,
+    /// The lengths of the lent lists: moduli, offsets, starts, ends, counts, times, rates.
+    pub lent: [usize; 7],
+    pub text: &'a [u8],
+}
+
+/// Reads a line; none for a bad one. Bytes of a text, message or kernel text go to the buffer.
+pub fn parse<'a>(line: &[u8], buffer: &'a mut [u8; MOST_KERNEL]) -> Option<Line<'a>> {
     if line.len() > LONGEST_LINE {
         return None;
     }
@@ -53,16 +62,16 @@ pub fn parse<'a>(line: &[u8], buffer: &'a mut [u8; MOST_BYTES]) -> Option<Line<'
         b"count" => Line::Count(number(words.next()?)?),
         b"time" => Line::Time(time(words.next()?)?),
         b"rate" => Line::Rate(number(words.next()?)?),
-        b"read-text" => Line::Ask(Question::ReadText(bytes(words.next()?, buffer)?)),
-        b"read-stamp" => Line::Ask(Question::ReadStamp(bytes(words.next()?, buffer)?)),
-        b"read-message" => Line::Ask(Question::ReadMessage(bytes(words.next()?, buffer)?)),
+        b"read-text" => Line::Ask(Question::ReadText(bytes(words.next()?, &mut buffer[..MOST_BYTES])?)),
+        b"read-stamp" => Line::Ask(Question::ReadStamp(bytes(words.next()?, &mut buffer[..MOST_BYTES])?)),
+        b"read-message" => Line::Ask(Question::ReadMessage(bytes(words.next()?, &mut buffer[..MOST_BYTES])?)),
         b"print-count" => {
             let (count, fill) = (number(words.next()?)?, byte(words.next()?)?);
-            Line::Ask(Question::PrintCount { count, fill, len: len(words.next()?)? })
+            Line::Ask(Question::PrintCount { count, fill, len: up_to(words.next()?, MOST_LEN)? })
         }
         b"print-stamp" => {
             let (e, fill) = (number(words.next()?)?, byte(words.next()?)?);
-            Line::Ask(Question::PrintStamp { e, fill, len: len(words.next()?)? })
+            Line::Ask(Question::PrintStamp { e, fill, len: up_to(words.next()?, MOST_LEN)? })
         }
         b"time-of" => Line::Ask(Question::TimeOf(number(words.next()?)?)),
         b"count-at" => Line::Ask(Question::CountAt(time(words.next()?)?)),
@@ -76,6 +85,14 @@ pub fn parse<'a>(line: &[u8], buffer: &'a mut [u8; MOST_BYTES]) -> Option<Line<'
             let segment = segment(&mut words)?;
             let (msf, given) = (number(words.next()?)?, double(words.next()?)?);
             Line::Ask(Question::Back { segment, msf, given })
+        }
+        b"read-kernel" => {
+            let clock = time(words.next()?)?;
+            let mut lent = [0; 7];
+            for len in &mut lent {
+                *len = up_to(words.next()?, MOST_LENT)?;
+            }
+            Line::Ask(Question::ReadKernel(KernelQuestion { clock, lent, text: bytes(words.next()?, buffer)? }))
         }
         _ => return None,
     };
@@ -100,8 +117,9 @@ fn byte(word: &[u8]) -> Option<u8> {
     u8::try_from(number(word)?).ok()
 }
 
-fn len(word: &[u8]) -> Option<usize> {
-    number(word).filter(|&len| len <= MOST_LEN as u64).map(|len| len as usize)
+/// A length.
+fn up_to(word: &[u8], most: usize) -> Option<usize> {
+    number(word).filter(|&len| len <= most as u64).map(|len| len as usize)
 }
 
 /// "with `-` in front of a negative time", an i64. `-0` is taken as 0.
@@ -120,12 +138,12 @@ fn hex(digit: u8) -> Option<u8> {
     }
 }
 
-/// "Bytes are lower-case hex, no bytes at all is `.`; a text or message has up to 2,000 bytes."
-fn bytes<'a>(word: &[u8], buffer: &'a mut [u8; MOST_BYTES]) -> Option<&'a [u8]> {
+/// "Bytes are lower-case hex, no bytes at all is `.`". No more of them than the buffer has.
+fn bytes<'a>(word: &[u8], buffer: &'a mut [u8]) -> Option<&'a [u8]> {
     if word == b"." {
         return Some(&[]);
     }
-    if word.is_empty() || word.len() % 2 != 0 || word.len() / 2 > MOST_BYTES {
+    if word.is_empty() || word.len() % 2 != 0 || word.len() / 2 > buffer.len() {
         return None;
     }
     let text = &mut buffer[..word.len() / 2];

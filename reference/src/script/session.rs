@@ -2,20 +2,23 @@
 
 use std::io::{self, Write};
 
-use super::{parse, Line, Question, Tables, LONGEST_LINE, MOST_BYTES, MOST_ENTRIES, MOST_LEN};
+use super::{
+    parse, KernelQuestion, Line, Question, Tables, LONGEST_LINE, MOST_ENTRIES, MOST_KERNEL, MOST_LEN, MOST_LENT,
+};
 use crate::{
-    back, count_at, forward, print_count, print_stamp, read_message, read_stamp, read_text, steps_back, time_of,
+    back, count_at, forward, print_count, print_stamp, read_kernel, read_message, read_stamp, read_text, steps_back,
+    time_of,
 };
 
 /// Answers a script line by line.
 pub struct Session {
     pub tables: Tables,
-    buffer: [u8; MOST_BYTES],
+    buffer: Box<[u8; MOST_KERNEL]>,
 }
 
 impl Session {
     pub fn new() -> Session {
-        Session { tables: Tables::new(), buffer: [0; MOST_BYTES] }
+        Session { tables: Tables::new(), buffer: Box::new([0; MOST_KERNEL]) }
     }
 
     /// One line without its byte 10; its answer, if it has one, is added to the output.
@@ -88,6 +91,7 @@ impl Tables {
             }
             Question::Forward { segment, msf, given } => plain(output, bits(forward(segment, msf, given))),
             Question::Back { segment, msf, given } => plain(output, bits(back(segment, msf, given))),
+            Question::ReadKernel(question) => kernel(output, question),
         };
         written.expect("a vector takes all bytes");
     }
@@ -120,6 +124,53 @@ fn printed(output: &mut Vec<u8>, result: Result<usize, u32>, lent: &[u8]) -> io:
     }
     put_bytes(output, lent);
     output.push(10);
+    Ok(())
+}
+
+/// With every lent list afterwards, "each entry 99 before the call".
+fn kernel(output: &mut Vec<u8>, question: KernelQuestion) -> io::Result<()> {
+    let KernelQuestion { clock, lent, text } = question;
+    let mut lists = [[99u64; MOST_LENT]; 6];
+    let mut times = [99i64; MOST_LENT];
+    let [moduli, offsets, starts, ends, counts, rates] = &mut lists;
+    let result = read_kernel(
+        text,
+        clock,
+        &mut moduli[..lent[0]],
+        &mut offsets[..lent[1]],
+        &mut starts[..lent[2]],
+        &mut ends[..lent[3]],
+        &mut counts[..lent[4]],
+        &mut times[..lent[5]],
+        &mut rates[..lent[6]],
+    );
+    match result {
+        Ok(kernel) => {
+            let (n, delimiter, system) = (kernel.n, kernel.delimiter, kernel.time_system);
+            write!(output, "ok {} {} {} {} {}", n, delimiter, system, kernel.partitions, kernel.segments)?;
+        }
+        Err(refusal) => write!(output, "refused {}", refusal)?,
+    }
+    put_list(output, &moduli[..lent[0]])?;
+    put_list(output, &offsets[..lent[1]])?;
+    put_list(output, &starts[..lent[2]])?;
+    put_list(output, &ends[..lent[3]])?;
+    put_list(output, &counts[..lent[4]])?;
+    put_list(output, &times[..lent[5]])?;
+    put_list(output, &rates[..lent[6]])?;
+    output.push(10);
+    Ok(())
+}
+
+/// A blank, then "one word: its numbers with a comma between, `.` if it has none".
+fn put_list<T: std::fmt::Display>(output: &mut Vec<u8>, list: &[T]) -> io::Result<()> {
+    output.push(b' ');
+    if list.is_empty() {
+        output.push(b'.');
+    }
+    for (i, number) in list.iter().enumerate() {
+        write!(output, "{}{}", if i > 0 { "," } else { "" }, number)?;
+    }
     Ok(())
 }
 

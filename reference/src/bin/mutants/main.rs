@@ -59,7 +59,7 @@ fn run() -> Result<String, String> {
         fs::write(&path, &source).map_err(failed)?;
         let (given, ended) = given?;
         let differing = differing(&expected, &given);
-        println!("{:<26} {:>6} answers differ{}", mutant.name, differing, if ended { "" } else { ", and it failed" });
+        println!("{:<28} {:>6} answers differ{}", mutant.name, differing, if ended { "" } else { ", and it failed" });
         if differing == 0 {
             alike.push(mutant.name);
         }

@@ -1,0 +1,127 @@
+-- What follows an operator: the tokens from a place on, and the stage that they leave.
+use Prim.Native.Nat.{ℕ, zero, suc, _+_, _-_, _≤_, _<_}
+use mathlib.Core.Path.{_≡_, refl, sym, ap, _∙_}
+use mathlib.Core.Bool.{Bool, true, false, not, cond, _&&_, _||_}
+use mathlib.Core.List.{List, [], _∷_, _++_}
+use lib.Dec.{eqb, ltb, leb}
+use lib.ListN.{length, take, drop, getD, drop-of-length-le, length-drop}
+use lib.Seq.{drop-drop, getD-drop, getD-take}
+use borrow.Author.Tests.{eq-eqb, ne-eqb, lt-ltb, le-ltb, not-true, not-false}
+use native.Mathlib.Nat.{add-zero}
+use native.Mathlib.Omega.{arith}
+use Rattle.base.proofs.Tests.{by-test, not-both}
+use Rattle.base.proofs.Lists.{drop-next}
+use Rattle.kernel_rules.specs.declared.Stage.{Stage}
+use Rattle.kernel_rules.specs.declared.Stage.the-variants.{Opened, Forbidden}
+use Rattle.kernel_rules.specs.Lines.{isGap, span, afterGap, part}
+use Rattle.kernel_rules.specs.Tokens.{endsValue, isOpen, widthAt, tokenAt, tokensFrom, tokensOf, item, items, withClose}
+use Rattle.kernel_rules.specs.Assignments.{valueStage, equalsAt, nameIn, isName, valueAt, assigned}
+use Rattle.kernel_tokens.proofs.Tokens.{tokens-next, tokens-end}
+use Rattle.kernel_heads.specs.declared.Part.{Part}
+use Rattle.kernel_heads.specs.Parts.{Named}
+
+-- no gap byte stands after a gap
+gap-over : (s : List ℕ) → span isGap s < length s → isGap (getD s (span isGap s) 0) ≡ false
+unfolding span
+gap-over [] h = absurd (omega arith)
+gap-over (b ∷ s) h = by-test (isGap b) (λ t. rw t (rw succ (gap-over s (less t h)))) (λ f. rw (f, f))
+  where
+    succ : span isGap s + 1 ≡ suc (span isGap s)
+    succ = omega arith
+
+    less : isGap b ≡ true → cond (isGap b) (span isGap s + 1) 0 < length (b ∷ s) → span isGap s < length s
+    less t g = let k : span isGap s + 1 < length (b ∷ s) = rw t at g in omega arith
+
+-- a gap has no tokens
+gap-passed : (s : List ℕ) → tokensOf s ≡ tokensOf (drop (span isGap s) s)
+unfolding span tokensFrom tokenAt widthAt
+gap-passed [] = refl
+gap-passed (b ∷ s) = by-test (isGap b) (λ t. rw (t, succ) (gap-passed s)) (λ f. ap (λ (k : ℕ). tokensOf (drop k (b ∷ s))) (sym (none f)))
+  where
+    succ : span isGap s + 1 ≡ suc (span isGap s)
+    succ = omega arith
+
+    none : isGap b ≡ false → span isGap (b ∷ s) ≡ 0
+    none f = rw f
+
+head-token : (s : List ℕ) → isGap (getD s 0 0) ≡ false → tokenAt s ≡ take (widthAt s) s ∷ []
+unfolding tokenAt
+head-token s f = rw f
+
+module _ (l : List ℕ) (i : ℕ) where
+  pub tokens-gap : tokensOf (drop i l) ≡ tokensOf (drop (afterGap l i) l)
+  unfolding afterGap
+  tokens-gap = gap-passed (drop i l) ∙ ap tokensOf (drop-drop (span isGap (drop i l)) i l)
+
+  pub after-gap : (a : ℕ) → a ≡ afterGap l i → a < length l → isGap (getD l a 0) ≡ false
+  unfolding afterGap
+  after-gap a e h = rw (e, ← getD-drop i l (span isGap (drop i l)) 0) (gap-over (drop i l) (omega (arith, length-drop i l)))
+
+  first-byte : getD (drop i l) 0 0 ≡ getD l i 0
+  first-byte = getD-drop i l 0 0 ∙ rw (add-zero i)
+
+  pub first-token : (w : ℕ) → i < length l → isGap (getD l i 0) ≡ false → w ≡ widthAt (drop i l) → tokensOf (drop i l) ≡ take w (drop i l) ∷ tokensOf (drop (i + w) l)
+  first-token w h f e = tokens-next l i h ∙ rw (head-token (drop i l) (ap isGap first-byte ∙ f), ← e)
+
+-- a list, one value, and a value with more behind it
+stage-list : (t : List ℕ) (ts : List (List ℕ)) → isOpen (getD t 0 0) ≡ true → valueStage (t ∷ ts) ≡ items Opened ts
+unfolding valueStage items
+stage-list t [] e = rw e
+stage-list t (u ∷ ts) e = rw e
+
+stage-one : (t : List ℕ) → isOpen (getD t 0 0) ≡ false → valueStage (t ∷ []) ≡ withClose (item Opened t)
+unfolding valueStage
+stage-one t f = rw f
+
+stage-more : (t u : List ℕ) (ts : List (List ℕ)) → isOpen (getD t 0 0) ≡ false → valueStage (t ∷ u ∷ ts) ≡ Forbidden
+unfolding valueStage
+stage-more t u ts f = rw f
+
+module _ (l : List ℕ) (from a : ℕ) (e : a ≡ afterGap l from) where
+  from-value : tokensOf (drop from l) ≡ tokensOf (drop a l)
+  from-value = tokens-gap l from ∙ rw (← e)
+
+  pub value-none : length l ≤ a → Forbidden ≡ valueStage (tokensOf (drop from l))
+  unfolding valueStage
+  value-none h = rw (from-value, tokens-end l a h)
+
+  module _ (h : a < length l) where
+    open-width : getD l a 0 ≡ 40 → 1 ≡ widthAt (drop a l)
+    unfolding widthAt
+    open-width b = rw (drop-next l a 0 h, b)
+
+    byte-of : (w : ℕ) → 1 ≤ w → getD (take w (drop a l)) 0 0 ≡ getD l a 0
+    byte-of w k = getD-take w (drop a l) 0 0 k ∙ first-byte l a
+
+    pub value-list : (r : Stage) → getD l a 0 ≡ 40 → r ≡ items Opened (tokensOf (drop (a + 1) l)) → r ≡ valueStage (tokensOf (drop from l))
+    value-list r b x =
+        x ∙ sym (ap valueStage (from-value ∙ first-token l a 1 h (after-gap l from a e h) (open-width b)) ∙ stage-list (take 1 (drop a l)) (tokensOf (drop (a + 1) l)) (eq-eqb _ _ (byte-of 1 (omega arith) ∙ b)))
+
+    module _ (b : getD l a 0 ≡ 40 → ⊥) (w : ℕ) (ew : w ≡ widthAt (drop a l)) (some : 1 ≤ w) (z : ℕ) (ez : z ≡ afterGap l (a + w)) where
+      here : tokensOf (drop from l) ≡ take w (drop a l) ∷ tokensOf (drop z l)
+      here = from-value ∙ first-token l a w h (after-gap l from a e h) ew ∙ ap (λ (ts : List (List ℕ)). take w (drop a l) ∷ ts) (tokens-gap l (a + w) ∙ rw (← ez))
+
+      closed : isOpen (getD (take w (drop a l)) 0 0) ≡ false
+      closed = ne-eqb _ _ (λ x. b (sym (byte-of w some) ∙ x))
+
+      pub value-more : z < length l → Forbidden ≡ valueStage (tokensOf (drop from l))
+      value-more k = sym (ap valueStage (here ∙ ap (λ (ts : List (List ℕ)). take w (drop a l) ∷ ts) (first-token l z (widthAt (drop z l)) k (after-gap l (a + w) z ez k) refl)) ∙ stage-more _ _ _ closed)
+
+      pub value-one : (t r : Stage) → length l ≤ z → t ≡ items Opened (tokenAt (drop a l)) → r ≡ withClose t → r ≡ valueStage (tokensOf (drop from l))
+      unfolding items
+      value-one t r k x y = y ∙ ap withClose (x ∙ rw (head-token (drop a l) (ap isGap (first-byte l a) ∙ after-gap l from a e h), ← ew)) ∙ sym (ap valueStage (here ∙ rw (tokens-end l z k)) ∙ stage-one (take w (drop a l)) closed)
+
+-- an assignment's own line
+module _ (l : List ℕ) (q : ℕ) (e : q ≡ equalsAt l) where
+  pub assigned-none : length l ≤ q → Forbidden ≡ assigned l
+  unfolding assigned
+  assigned-none h = rw (← e, le-ltb q (length l) h)
+
+  module _ (h : q < length l) (n : Part) (named : Named l n) (t : Bool) (y : t ≡ isName (part l (n .start) (n .end))) where
+    pub assigned-unnamed : not t ≡ true → Forbidden ≡ assigned l
+    unfolding assigned
+    assigned-unnamed f = rw (← e, lt-ltb q (length l) h, ← named .bytes, ← y, not-true t f)
+
+    pub assigned-value : (r : Stage) → not t ≡ false → r ≡ valueStage (tokensOf (drop (q + 1) l)) → r ≡ assigned l
+    unfolding assigned valueAt
+    assigned-value r f x = x ∙ ap valueStage (tokens-gap l (q + 1)) ∙ rw (← e, lt-ltb q (length l) h, ← named .bytes, ← y, not-false t f)

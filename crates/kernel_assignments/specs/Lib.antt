@@ -1,0 +1,2 @@
+-- Lines by computation.
+pub mod Examples

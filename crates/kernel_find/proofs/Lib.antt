@@ -1,0 +1,2 @@
+-- Walk serves the loop over the lines.
+pub mod Walk

@@ -1,0 +1,2 @@
+-- What the first pass finds.
+pub mod Slots

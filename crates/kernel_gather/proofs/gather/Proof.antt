@@ -1,0 +1,118 @@
+use borrow.Author.Needs.{needs}
+use Rattle.kernel_gather.proofs.First.{cut, cut-room, empty-refused, first-refused, first-clock}
+use Rattle.kernel_gather.proofs.Gathering.{refused-within}
+use Rattle.kernel_gather.proofs.gather.Statement.{statement}
+use Rattle.kernel_gather.proofs.gather.Tie as tie
+use Rattle.kernel_gather.proofs.gather.Reads as reads
+use Rattle.kernel_gather.proofs.gather.Lts as lts
+use Rattle.kernel_gather.proofs.gather_from.Reads as gather-from-reads
+use Rattle.kernel_lines.proofs.bytes.same.Reads as same-reads
+use Rattle.kernel_lines.proofs.line_within.Reads as line-within-reads
+use Rattle.kernel_names.proofs.clock_digits.Reads as clock-digits-reads
+
+-- src/lib.rt:59:9
+returns : tie.Need-returns
+returns c = (empty-refused _ _ _ _ _ _ _ _ _ (c .if1 .taken), (c .before .before .before .before .before .before .before .before .pre, refused-within _))
+
+-- src/lib.rt:61:9
+line-within-requires : tie.Need-line-within-requires
+line-within-requires c κs = search needs
+
+-- src/lib.rt:63:14
+slice-aggregate-same : tie.Need-slice-aggregate-same
+slice-aggregate-same c = cut _ _ (c .before .line-within .ensures .1 .1)
+
+-- src/lib.rt:63:28
+slice-aggregate-same-2 : tie.Need-slice-aggregate-same-2
+slice-aggregate-same-2 c = search needs
+
+-- src/lib.rt:63:9
+same-requires : tie.Need-same-requires
+same-requires c κs = search needs
+
+-- src/lib.rt:64:9
+returns-2 : tie.Need-returns-2
+returns-2 c = (
+  first-refused _ _ _ _ _ _ _ _ _ (c .before .before .before .before .before .if1 .left) (c .before .before .before .before .line-within .result) (c .before .before .before .before .line-within .ensures .0) (c .before .same .result) (c .before .same .ensures) (c .if2 .taken),
+  (c .before .before .before .before .before .before .before .before .before .before .before .before .before .pre, refused-within _),
+)
+
+-- src/lib.rt:67:33
+slice-aggregate-clock-digits : tie.Need-slice-aggregate-clock-digits
+slice-aggregate-clock-digits c = search needs
+
+-- src/lib.rt:67:9
+clock-digits-requires : tie.Need-clock-digits-requires
+clock-digits-requires c κs = search needs
+
+-- src/lib.rt:69:27
+array-share-prefix-digits : tie.Need-array-share-prefix-digits
+array-share-prefix-digits c = search needs
+
+-- src/lib.rt:69:27
+slice-aggregate-gather-from : tie.Need-slice-aggregate-gather-from
+slice-aggregate-gather-from c = cut-room _ _ _ (c .before .before .clock-digits .ensures .1) (search needs)
+
+-- src/lib.rt:68:5
+gather-from-requires : tie.Need-gather-from-requires
+gather-from-requires c κs = search needs
+
+-- src/lib.rt:42:1
+same-length : tie.Need-same-length
+same-length c = search needs
+
+-- src/lib.rt:42:1
+same-length-2 : tie.Need-same-length-2
+same-length-2 c = search needs
+
+-- src/lib.rt:42:1
+same-length-3 : tie.Need-same-length-3
+same-length-3 c = search needs
+
+-- src/lib.rt:42:1
+same-length-4 : tie.Need-same-length-4
+same-length-4 c = search needs
+
+-- src/lib.rt:42:1
+same-length-5 : tie.Need-same-length-5
+same-length-5 c = search needs
+
+-- src/lib.rt:42:1
+same-length-6 : tie.Need-same-length-6
+same-length-6 c = search needs
+
+-- src/lib.rt:42:1
+same-length-7 : tie.Need-same-length-7
+same-length-7 c = search needs
+
+-- src/lib.rt:42:1
+returns-3 : tie.Need-returns-3
+returns-3 c = (
+  first-clock _ _ _ _ _ _ _ _ _ _ (search (c .before .before .before .before .before .before .before .before .before .before .before .before .before .before .before .before .before .before .before .before .before .before .before .before .before .before .before .before .before .before .before .before .before .before .before .before .before .before .good, needs)) (c .before .before .before .before .before .before .before .before .before .before .before .before .before .before .before .before .before .before .before .before .before .before .before .before .before .before .before .before .before .before .if1 .left) (c .before .before .before .before .before .before .before .before .before .before .before .before .before .before .before .before .before .before .before .before .before .before .before .before .before .before .before .before .before .line-within .result) (c .before .before .before .before .before .before .before .before .before .before .before .before .before .before .before .before .before .before .before .before .before .before .before .before .before .before .before .before .before .line-within .ensures .0) (c .before .before .before .before .before .before .before .before .before .before .before .before .before .before .before .before .before .before .before .before .before .before .before .before .before .before .same .result) (c .before .before .before .before .before .before .before .before .before .before .before .before .before .before .before .before .before .before .before .before .before .before .before .before .before .before .same .ensures)
+      (c .before .before .before .before .before .before .before .before .before .before .before .before .before .gather-from .result) (c .before .before .before .before .before .before .before .before .before .before .before .before .before .before .before .before .before .before .before .before .before .before .before .before .before .if2 .left) (c .before .before .before .before .before .before .before .before .before .before .before .before .before .before .before .before .before .before .before .before .before .before .before .clock-digits .ensures .0) (c .before .before .before .before .before .before .before .before .before .before .before .before .before .gather-from .ensures .0),
+  c .before .before .before .before .before .before .before .before .before .before .before .before .before .gather-from .ensures .1,
+)
+
+pub gather-spec : {M : Type 1} → statement M
+gather-spec =
+    tie.close
+    (tie.spec
+    returns
+    line-within-requires
+    slice-aggregate-same
+    slice-aggregate-same-2
+    same-requires
+    returns-2
+    slice-aggregate-clock-digits
+    clock-digits-requires
+    array-share-prefix-digits
+    slice-aggregate-gather-from
+    gather-from-requires
+    same-length
+    same-length-2
+    same-length-3
+    same-length-4
+    same-length-5
+    same-length-6
+    same-length-7
+    returns-3)

@@ -1,0 +1,2 @@
+-- Parts of a line, for the contracts.
+pub mod Parts

@@ -1,0 +1,2 @@
+-- The room that a clock's digits need.
+pub mod Digits

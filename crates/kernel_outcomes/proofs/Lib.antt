@@ -1,0 +1,5 @@
+pub mod Refusals
+pub mod Lent
+pub mod Closing
+pub mod Passing
+pub mod Whole

@@ -1,0 +1,6 @@
+-- What is proved of reading a kernel, over the definitions of kernel_rules.
+pub mod Samples
+pub mod Refused
+pub mod Refusals
+pub mod Lent
+pub mod Passing

@@ -1,0 +1,2 @@
+-- Cases of tokens.
+pub mod Examples

@@ -1,0 +1,2 @@
+-- Where the values of an assignment stand in the text.
+pub mod Places
