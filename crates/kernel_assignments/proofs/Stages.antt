@@ -1,14 +1,13 @@
 -- The two markers, and the stage after a line.
 use Prim.Native.Nat.{ℕ, zero, suc, _+_, _-_, _≤_, _<_}
-use mathlib.Core.Path.{_≡_, refl, sym, ap, _∙_}
-use mathlib.Core.Bool.{Bool, true, false, not, cond, _&&_}
+use mathlib.Core.Path.{_≡_, refl, _∙_}
+use mathlib.Core.Bool.{Bool, true, false, not, cond}
 use mathlib.Core.List.{List, [], _∷_}
-use lib.Dec.{eqb}
 use lib.ListN.{length, take, drop, getD, drop-of-length-le}
 use borrow.Author.Tests.{ne-eqb, not-true, not-false}
 use Rattle.base.proofs.Lists.{drop-next}
 use Rattle.kernel_rules.specs.declared.Stage.{Stage}
-use Rattle.kernel_rules.specs.declared.Stage.the-variants.{Comment, Data, Opened, Numbers, Strings, Forbidden}
+use Rattle.kernel_rules.specs.declared.Stage.the-variants.{Data, Forbidden}
 use Rattle.kernel_rules.specs.Lines.{isGap, afterGap, trimTo, part, same, beginData, beginText, isMarker, isDataLine, isEmptyLine}
 use Rattle.kernel_rules.specs.Tokens.{tokensOf, items}
 use Rattle.kernel_rules.specs.Assignments.{assigned, beginsData, beginsText, plainStage, afterLine}

@@ -1,21 +1,20 @@
 -- What follows an operator: the tokens from a place on, and the stage that they leave.
-use Prim.Native.Nat.{ℕ, zero, suc, _+_, _-_, _≤_, _<_}
+use Prim.Native.Nat.{ℕ, suc, _+_, _≤_, _<_}
 use mathlib.Core.Path.{_≡_, refl, sym, ap, _∙_}
-use mathlib.Core.Bool.{Bool, true, false, not, cond, _&&_, _||_}
-use mathlib.Core.List.{List, [], _∷_, _++_}
-use lib.Dec.{eqb, ltb, leb}
-use lib.ListN.{length, take, drop, getD, drop-of-length-le, length-drop}
+use mathlib.Core.Bool.{Bool, true, false, not, cond}
+use mathlib.Core.List.{List, [], _∷_}
+use lib.ListN.{length, take, drop, getD, length-drop}
 use lib.Seq.{drop-drop, getD-drop, getD-take}
 use borrow.Author.Tests.{eq-eqb, ne-eqb, lt-ltb, le-ltb, not-true, not-false}
 use native.Mathlib.Nat.{add-zero}
 use native.Mathlib.Omega.{arith}
-use Rattle.base.proofs.Tests.{by-test, not-both}
+use Rattle.base.proofs.Tests.{by-test}
 use Rattle.base.proofs.Lists.{drop-next}
 use Rattle.kernel_rules.specs.declared.Stage.{Stage}
 use Rattle.kernel_rules.specs.declared.Stage.the-variants.{Opened, Forbidden}
 use Rattle.kernel_rules.specs.Lines.{isGap, span, afterGap, part}
-use Rattle.kernel_rules.specs.Tokens.{endsValue, isOpen, widthAt, tokenAt, tokensFrom, tokensOf, item, items, withClose}
-use Rattle.kernel_rules.specs.Assignments.{valueStage, equalsAt, nameIn, isName, valueAt, assigned}
+use Rattle.kernel_rules.specs.Tokens.{isOpen, widthAt, tokenAt, tokensFrom, tokensOf, item, items, withClose}
+use Rattle.kernel_rules.specs.Assignments.{valueStage, equalsAt, isName, valueAt, assigned}
 use Rattle.kernel_tokens.proofs.Tokens.{tokens-next, tokens-end}
 use Rattle.kernel_heads.specs.declared.Part.{Part}
 use Rattle.kernel_heads.specs.Parts.{Named}

@@ -1,10 +1,10 @@
 -- The loop over the lines: what is kept of the lines before a place has, with the lines from there on, the answer of the whole.
-use Prim.Native.Nat.{ℕ, zero, suc, _+_, _-_, _≤_, _<_}
+use Prim.Native.Nat.{ℕ, zero, suc, _+_, _≤_, _<_}
 use mathlib.Core.Path.{_≡_, refl, sym, ap, subst, _∙_}
 use mathlib.Core.Bool.{Bool, true, false, cond, _&&_}
 use mathlib.Core.List.{List, [], _∷_, _++_, append-nil}
 use lib.Dec.{eqb, ltb, leb}
-use lib.ListN.{length, take, drop, getD, set, replicate, length-append, length-set}
+use lib.ListN.{length, drop, getD, set, replicate, length-append, length-set}
 use lib.Seq.{getD-set-same, getD-set-other}
 use borrow.Author.Tests.{eq-eqb, ne-eqb, eqb-true, eqb-false, lt-ltb, le-ltb, le-leb, lt-leb}
 use native.Mathlib.Omega.{arith}
@@ -15,11 +15,10 @@ use Rattle.kernel_rules.specs.declared.Stage.{Stage}
 use Rattle.kernel_rules.specs.declared.Stage.the-variants.{Comment}
 use Rattle.kernel_rules.specs.Lines.{kernelLines, part}
 use Rattle.kernel_rules.specs.Assignments.{afterLine, afterLines, endsWell}
-use Rattle.kernel_rules.specs.Names.{Assignment, assignment, given, assigns, names}
+use Rattle.kernel_rules.specs.Names.{assignment, given, assigns, names}
 use Rattle.kernel_lines.specs.declared.Line.{Line}
 use Rattle.kernel_lines.specs.Places.{lineAt}
 use Rattle.kernel_lines.proofs.Places.{lines-here, lines-none}
-use Rattle.kernel_find.specs.declared.Found.{Found}
 use Rattle.kernel_find.specs.Slots.{formOk, assignmentAt, slotAt, FoundAll}
 
 -- a slot

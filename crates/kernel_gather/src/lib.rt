@@ -12,7 +12,7 @@ use crate::heading::read_heading;
 use crate::listing::Listing;
 use crate::listing::read_lists;
 use kernel_find::find;
-use kernel_lines::bytes::same;
+use kernel_lines::line_bytes::same;
 use kernel_lines::line_within;
 use kernel_names::clock_digits;
 use rules::Refusal;

@@ -1,14 +1,14 @@
 -- What stands before the value of an assignment: the name and the operator, as the code finds them.
 use Prim.Native.Nat.{ℕ, _+_, _-_, _≤_, _<_, min}
-use mathlib.Core.Path.{_≡_, refl, sym, ap, _∙_}
-use mathlib.Core.Bool.{Bool, true, false, not, cond}
-use mathlib.Core.List.{List, [], _∷_}
+use mathlib.Core.Path.{_≡_, sym, _∙_}
+use mathlib.Core.Bool.{Bool, true, false, not}
+use mathlib.Core.List.{List}
 use lib.Dec.{eqb, ltb}
-use lib.ListN.{length, take, drop, getD, drop-of-length-le}
+use lib.ListN.{length, drop, getD, drop-of-length-le}
 use borrow.Author.Tests.{eq-eqb, ne-eqb, lt-ltb, ltb-true}
 use native.Mathlib.Omega.{arith}
 use Rattle.base.proofs.Tests.{and-first}
-use Rattle.kernel_rules.specs.Lines.{isGap, afterGap, trimTo, part, span}
+use Rattle.kernel_rules.specs.Lines.{isGap, afterGap, trimTo}
 use Rattle.kernel_rules.specs.Assignments.{isEquals, equalsAt, isPlus, nameEnd, nameIn, valueAt}
 use Rattle.kernel_heads.specs.declared.Part.{Part}
 use Rattle.kernel_heads.specs.Parts.{Stripped, Named}

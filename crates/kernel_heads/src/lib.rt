@@ -5,9 +5,9 @@ ghost use lib.ListN.{length, drop};
 ghost use Rattle.base.specs.Scans.{all};
 ghost use Rattle.kernel_rules.specs.Assignments.{equalsAt, isPlus, valueAt, inName, isName};
 ghost use Rattle.kernel_heads.specs.Parts.{Stripped, Named};
-use kernel_lines::bytes::after_gap;
-use kernel_lines::bytes::is_gap;
-use kernel_lines::bytes::trim_gaps;
+use kernel_lines::line_bytes::after_gap;
+use kernel_lines::line_bytes::is_gap;
+use kernel_lines::line_bytes::trim_gaps;
 
 const LONGEST_NAME: usize = 32;
 

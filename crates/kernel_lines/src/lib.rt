@@ -6,7 +6,7 @@ ghost use Rattle.rules.specs.Text.{isBlank};
 ghost use Rattle.kernel_rules.specs.Lines.{isReturn, trimTo, trimOne, keptOf};
 ghost use Rattle.kernel_lines.specs.Places.{lineAt};
 
-pub mod bytes;
+pub mod line_bytes;
 
 const BLANK: u8 = 32;
 

@@ -1,16 +1,16 @@
 -- Copying a list to the front of another, and whether seven lists have room.
-use Prim.Native.Nat.{ℕ, _+_, _-_, _≤_, _<_}
+use Prim.Native.Nat.{ℕ, _+_, _≤_, _<_}
 use mathlib.Core.Path.{_≡_, refl, sym, ap, _∙_}
-use mathlib.Core.Bool.{Bool, true, false, _&&_, not, true≢false}
+use mathlib.Core.Bool.{Bool, true, false, _&&_, true≢false}
 use mathlib.Core.List.{List, [], _∷_}
 use lib.Dec.{leb}
 use lib.IntN.{ℤ, pos}
 use lib.ListN.{length, getD, set}
-use lib.Seq.{paste, paste-suc, paste-zero, take-all}
+use lib.Seq.{paste, paste-suc, take-all}
 use native.Mathlib.Nat.{zero-add, le-refl}
 use native.Mathlib.Numerals.{add-one}
 use native.Mathlib.Omega.{arith}
-use borrow.Author.Tests.{lt-leb, le-leb, leb-true, not-true, not-false}
+use borrow.Author.Tests.{lt-leb, le-leb, leb-true}
 use Rattle.base.proofs.Tests.{all-of-head, all-of-tail}
 use Rattle.base.specs.Scans.{allOf}
 use Rattle.kernel_rules.specs.Kernel.{front}

@@ -1,21 +1,18 @@
 -- A name in two parts, and the number of a name among the ten.
-use Prim.Native.Nat.{ℕ, zero, suc, _+_, _-_, _≤_, _<_}
+use Prim.Native.Nat.{ℕ, _+_, _-_, _≤_, _<_}
 use mathlib.Core.Path.{_≡_, refl, sym, ap, _∙_}
 use mathlib.Core.Bool.{Bool, true, false, not, _&&_}
 use mathlib.Core.List.{List, [], _∷_, _++_}
-use mathlib.Core.Option.{none, some}
 use lib.Dec.{eqb}
 use lib.ListN.{length, take, drop, getD, length-append, length-drop}
 use lib.Seq.{take-all}
 use borrow.Author.Tests.{not-true, not-false, eqb-true, eqb-false}
 use native.Mathlib.Omega.{arith}
-use Rattle.base.specs.Scans.{firstBelow}
 use Rattle.base.proofs.Tests.{by-test}
-use Rattle.base.proofs.Scans.{First, first-is, first-none}
+use Rattle.base.proofs.Scans.{first-is, first-none}
 use Rattle.kernel_rules.specs.declared.Stage.the-variants.{Data}
 use Rattle.kernel_rules.specs.Lines.{same, part}
 use Rattle.kernel_rules.specs.Names.{nameList, names, numberOr, which, assigns}
-use Rattle.kernel_rules.specs.Assignments.{nameIn}
 use Rattle.kernel_lines.proofs.Sameness.{other-length}
 use Rattle.kernel_heads.specs.declared.Part.{Part}
 use Rattle.kernel_heads.specs.Parts.{Named}

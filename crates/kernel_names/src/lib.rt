@@ -7,7 +7,7 @@ ghost use Rattle.kernel_rules.specs.Lines.{same};
 ghost use Rattle.kernel_rules.specs.Names.{names, clockDigits, nameList, which, assigns};
 ghost use Rattle.kernel_names.specs.Digits.{longestDigits};
 use kernel_heads::name_in;
-use kernel_lines::bytes;
+use kernel_lines::line_bytes::same;
 use kernel_rules::Stage;
 
 // How many names there are, and the number of a name that is none of them.
@@ -70,7 +70,7 @@ fn is_named(digits: &[u8], k: usize, w: &[u8]) -> bool
     ensures { λ r. ⌜ r ≡ same (now (w .entry)) (getD (nameList (now (digits .entry))) k []) ⌝ }
 {
     if k == 0 {
-        return bytes::same(w, b"SCLK_KERNEL_ID");
+        return same(w, b"SCLK_KERNEL_ID");
     }
     if k == 1 {
         return is_joined(w, b"SCLK_DATA_TYPE_", digits);
@@ -108,8 +108,8 @@ fn is_joined(w: &[u8], a: &[u8], b: &[u8]) -> bool
     if w.len() != end {
         return false;
     }
-    if !bytes::same(&w[..n], a) {
+    if !same(&w[..n], a) {
         return false;
     }
-    bytes::same(&w[n..end], b)
+    same(&w[n..end], b)
 }

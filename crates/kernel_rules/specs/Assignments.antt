@@ -1,9 +1,9 @@
 -- Assignments: name, operator and values; the stage that each line leaves; the assignments of a text.
-use Prim.Native.Nat.{ℕ, zero, suc, _+_, _-_}
+use Prim.Native.Nat.{ℕ, _+_, _-_}
 use mathlib.Core.Bool.{Bool, true, false, not, _&&_, _||_, cond}
 use mathlib.Core.List.{List, [], _∷_, _++_}
 use lib.Dec.{eqb, leb, ltb}
-use lib.ListN.{length, take, drop, getD}
+use lib.ListN.{length, drop, getD}
 use Rattle.base.specs.Scans.{all, allOf}
 use Rattle.kernel_rules.specs.declared.Stage.{Stage}
 use Rattle.kernel_rules.specs.declared.Stage.the-variants.{Comment, Data, Opened, Numbers, Strings, Forbidden}

@@ -1,7 +1,7 @@
 -- Lists kept up to one number more than they may have are accepted, and refused, as the whole lists are.
-use Prim.Native.Nat.{ℕ, _+_, _≤_, _<_, min}
-use mathlib.Core.Path.{_≡_, refl, sym, ap, _∙_}
-use mathlib.Core.Bool.{Bool, true, false, _&&_}
+use Prim.Native.Nat.{ℕ, _+_, _≤_, _<_}
+use mathlib.Core.Path.{_≡_, sym, ap, _∙_}
+use mathlib.Core.Bool.{true, false, _&&_}
 use mathlib.Core.List.{List}
 use lib.IntN.{ℤ}
 use lib.Dec.{eqb, ltb}
@@ -12,14 +12,14 @@ use native.Mathlib.Omega.{arith}
 use Rattle.base.proofs.Tests.{by-test, and-out-first, and-out-second, same-test}
 use Rattle.rules.specs.Limits.{mostFields, mostPartitions, mostSegments}
 use Rattle.rules.specs.declared.Layout.{Layout}
-use Rattle.rules.specs.Answer.{Answer, answer, refuse, unless}
+use Rattle.rules.specs.Answer.{answer, refuse, unless}
 use Rattle.rules.specs.Layout.{layoutOk, productOf, unitOf}
 use Rattle.rules.specs.Partitions.{Partitions, partitions, partitionsOk, totalOf}
 use Rattle.rules.specs.Segments.{Segments, segments, segmentsOk}
 use Rattle.rules.specs.Accepted.{accepted}
 use Rattle.rules.proofs.Accepted.{layout-facts, partitions-facts, segments-facts}
 use Rattle.kernel_rules.specs.Tables.{Tables, layoutIn, tablesAccepted}
-use Rattle.kernel_tables.specs.Given.{tablesWith, fieldRoom, partitionRoom, segmentRoom, clipped}
+use Rattle.kernel_tables.specs.Given.{tablesWith, partitionRoom, segmentRoom, clipped}
 
 module _ {A : Type 0} (xs : List A) (most : ℕ) where
   -- a kept list within its limit is the whole

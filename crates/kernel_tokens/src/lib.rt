@@ -8,7 +8,7 @@ use crate::values::ends_value;
 use crate::values::is_string;
 use crate::values::string_width;
 use crate::values::value_width;
-use kernel_lines::bytes::is_gap;
+use kernel_lines::line_bytes::is_gap;
 use kernel_numbers::is_number;
 use kernel_rules::Stage;
 

@@ -2,17 +2,17 @@
 --     Going             count, numbers: for lists and rows alike
 --     ListFill          a list of whole numbers
 --     RowFill           rows of three, by their columns
-use Prim.Native.Nat.{ℕ, zero, suc, _+_, _-_, _*_, _/_, _%_, _≤_, _<_}
-use mathlib.Core.Path.{_≡_, refl, sym, ap, _∙_}
+use Prim.Native.Nat.{ℕ, suc, _+_, _-_, _/_, _%_, _<_}
+use mathlib.Core.Path.{_≡_, refl, sym, _∙_}
 use mathlib.Core.Bool.{Bool, true, false, not, _&&_, cond}
 use mathlib.Core.List.{List, [], _∷_, map}
-use lib.Dec.{eqb, leb}
+use lib.Dec.{eqb}
 use lib.IntN.{ℤ}
 use lib.ListN.{length, set, length-set}
 use native.Mathlib.Nat.{add-zero, zero-add}
 use native.Mathlib.Omega.{arith}
-use borrow.Author.Tests.{leb-true, eqb-true, eqb-false, ne-eqb, not-true, not-false}
-use Rattle.base.proofs.Tests.{by-test, and-first, and-second}
+use borrow.Author.Tests.{eqb-true, eqb-false, ne-eqb, not-true, not-false}
+use Rattle.base.proofs.Tests.{by-test}
 use Rattle.kernel_rules.specs.declared.Number.{Number}
 use Rattle.kernel_rules.specs.declared.Number.the-variants.{Malformed}
 use Rattle.kernel_rules.specs.Lines.{part}

@@ -1,9 +1,9 @@
 -- Numbers as the code tells them apart: whether a value is one, and one in 64 bits with a sign.
 use Prim.Native.Nat.{ℕ, zero, suc, _+_, _-_, _^_, _%_, _/_, _≤_, _<_}
-use mathlib.Core.Path.{_≡_, refl, sym, ap, _∙_}
-use mathlib.Core.Bool.{Bool, true, false, cond, _&&_}
-use lib.IntN.{ℤ, pos, negsuc, negℤ}
-use lib.Dec.{eqb, ltb, leb}
+use mathlib.Core.Path.{_≡_, refl, _∙_}
+use mathlib.Core.Bool.{Bool, true, false, _&&_}
+use lib.IntN.{ℤ, pos, negℤ}
+use lib.Dec.{eqb, ltb}
 use lib.Signed.{mag}
 use mathlib.Core.List.{List}
 use mir.Syntax.{w64}

@@ -1,13 +1,13 @@
 -- What is stored of a list, and what its front is afterwards.
 --     stored-all        storing from the first row on
 --     stored-front      what the lent list then begins with
-use Prim.Native.Nat.{ℕ, zero, suc, _+_, _-_, _≤_, _<_, min}
+use Prim.Native.Nat.{ℕ, suc, _+_, _≤_, _<_, min}
 use mathlib.Core.Path.{_≡_, refl, sym, ap, _∙_}
 use mathlib.Core.Bool.{Bool, true, false, cond, _&&_}
-use mathlib.Core.List.{List, [], _∷_, _++_}
+use mathlib.Core.List.{List, [], _∷_}
 use lib.Dec.{eqb}
 use lib.IntN.{ℤ}
-use lib.ListN.{length, take, drop, set, length-set, length-take}
+use lib.ListN.{length, take, drop, set, length-take}
 use lib.Seq.{take-all, take-at, drop-nil, set-out}
 use native.Mathlib.Numerals.{add-one}
 use native.Mathlib.Omega.{arith}

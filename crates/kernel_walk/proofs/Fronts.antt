@@ -2,9 +2,9 @@
 --     skip-values                  what stands between the values
 --     front-close, front-value     the list's end, a value
 --     own-none, own-open, own-value     the front of what an assignment is given
-use Prim.Native.Nat.{ℕ, zero, suc, _+_, _-_, _<_}
+use Prim.Native.Nat.{ℕ, zero, suc, _-_, _<_}
 use mathlib.Core.Path.{_≡_, refl, ap, _∙_}
-use mathlib.Core.Bool.{true, false, not, true≢false}
+use mathlib.Core.Bool.{true, false, true≢false}
 use mathlib.Core.List.{List, [], _∷_, _++_}
 use lib.ListN.{take, drop}
 use native.Mathlib.Numerals.{add-one}

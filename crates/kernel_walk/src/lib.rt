@@ -146,7 +146,7 @@ fn after_between(text: &[u8], at: usize, end: usize) -> usize
 fn is_between(b: u8) -> bool
     ensures { λ r. ⌜ r ≡ isBetween b ⌝ }
 {
-    if kernel_lines::bytes::is_gap(b) {
+    if kernel_lines::line_bytes::is_gap(b) {
         return true;
     }
     b == b','

@@ -6,7 +6,7 @@ use Rattle.kernel_gather.proofs.gather.Tie as tie
 use Rattle.kernel_gather.proofs.gather.Reads as reads
 use Rattle.kernel_gather.proofs.gather.Lts as lts
 use Rattle.kernel_gather.proofs.gather_from.Reads as gather-from-reads
-use Rattle.kernel_lines.proofs.bytes.same.Reads as same-reads
+use Rattle.kernel_lines.proofs.line_bytes.same.Reads as same-reads
 use Rattle.kernel_lines.proofs.line_within.Reads as line-within-reads
 use Rattle.kernel_names.proofs.clock_digits.Reads as clock-digits-reads
 

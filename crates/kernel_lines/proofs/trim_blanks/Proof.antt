@@ -1,4 +1,4 @@
-use Prim.Native.Nat.{_-_, _≤_}
+use Prim.Native.Nat.{_≤_}
 use mathlib.Core.Path.{_≡_}
 use Rattle.rules.specs.Text.{isBlank}
 use Rattle.kernel_rules.specs.Lines.{trimTo}

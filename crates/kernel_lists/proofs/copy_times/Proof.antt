@@ -2,10 +2,8 @@ use Prim.Native.Nat.{_-_, _≤_}
 use mathlib.Core.Path.{_≡_}
 use borrow.Author.Needs.{needs}
 use lib.ListN.{length}
-use lib.IntN.{pos}
 use lib.Seq.{paste, paste-zero}
-use mir.Facts.{toZ-ofZ}
-use Rattle.kernel_lists.proofs.Copies.{copy-next, copy-time, copy-done}
+use Rattle.kernel_lists.proofs.Copies.{copy-time, copy-done}
 use Rattle.kernel_lists.proofs.copy_times.Statement.{statement}
 use Rattle.kernel_lists.proofs.copy_times.Tie as tie
 use Rattle.kernel_lists.proofs.copy_times.Reads as reads

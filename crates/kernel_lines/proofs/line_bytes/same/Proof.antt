@@ -4,8 +4,8 @@ use lib.ListN.{length, drop}
 use Rattle.kernel_rules.specs.Lines.{same}
 use Rattle.kernel_lines.proofs.Sameness.{other-length, same-turn, same-out, same-end}
 use borrow.Author.Needs.{needs}
-use Rattle.kernel_lines.proofs.bytes.same.Statement.{statement}
-use Rattle.kernel_lines.proofs.bytes.same.Tie as tie
+use Rattle.kernel_lines.proofs.line_bytes.same.Statement.{statement}
+use Rattle.kernel_lines.proofs.line_bytes.same.Tie as tie
 
 abbrev Inv-loop : tie.InvT-loop
 Inv-loop a b i₀ i = (length a ≡ length b) × (i ≤ length a) × (same a b ≡ same (drop i a) (drop i b))

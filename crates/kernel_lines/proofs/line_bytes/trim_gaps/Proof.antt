@@ -1,10 +1,10 @@
-use Prim.Native.Nat.{_-_, _≤_}
+use Prim.Native.Nat.{_≤_}
 use mathlib.Core.Path.{_≡_}
 use Rattle.kernel_rules.specs.Lines.{isGap, trimTo}
 use Rattle.kernel_lines.proofs.Trimming.{end-turn, end-stop, end-none}
 use borrow.Author.Needs.{needs}
-use Rattle.kernel_lines.proofs.bytes.trim_gaps.Statement.{statement}
-use Rattle.kernel_lines.proofs.bytes.trim_gaps.Tie as tie
+use Rattle.kernel_lines.proofs.line_bytes.trim_gaps.Statement.{statement}
+use Rattle.kernel_lines.proofs.line_bytes.trim_gaps.Tie as tie
 
 abbrev Inv-loop : tie.InvT-loop
 Inv-loop l n i₀ i = (i ≤ n) × (trimTo isGap l n ≡ trimTo isGap l i)

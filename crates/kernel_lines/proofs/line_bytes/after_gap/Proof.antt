@@ -4,8 +4,8 @@ use lib.ListN.{length}
 use Rattle.kernel_rules.specs.Lines.{isGap, afterGap}
 use Rattle.kernel_lines.proofs.Spans.{afterSpan, gap-start, gap-turn, gap-stop, gap-end}
 use borrow.Author.Needs.{needs}
-use Rattle.kernel_lines.proofs.bytes.after_gap.Statement.{statement}
-use Rattle.kernel_lines.proofs.bytes.after_gap.Tie as tie
+use Rattle.kernel_lines.proofs.line_bytes.after_gap.Statement.{statement}
+use Rattle.kernel_lines.proofs.line_bytes.after_gap.Tie as tie
 
 abbrev Inv-loop : tie.InvT-loop
 Inv-loop l i j₀ j = (i ≤ j) × (j ≤ length l) × (afterGap l i ≡ afterSpan isGap l j)
