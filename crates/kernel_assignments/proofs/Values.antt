@@ -3,10 +3,9 @@ use Prim.Native.Nat.{ℕ, suc, _+_, _≤_, _<_}
 use mathlib.Core.Path.{_≡_, refl, sym, ap, _∙_}
 use mathlib.Core.Bool.{Bool, true, false, not, cond}
 use mathlib.Core.List.{List, [], _∷_}
-use lib.ListN.{length, take, drop, getD, length-drop}
-use lib.Seq.{drop-drop, getD-drop, getD-take}
+use lib.ListN.{length, drop, getD, length-drop}
+use lib.Seq.{drop-drop, getD-drop}
 use borrow.Author.Tests.{eq-eqb, ne-eqb, lt-ltb, le-ltb, not-true, not-false}
-use native.Mathlib.Nat.{add-zero}
 use native.Mathlib.Omega.{arith}
 use Rattle.base.proofs.Tests.{by-test}
 use Rattle.base.proofs.Lists.{drop-next}
@@ -15,7 +14,7 @@ use Rattle.kernel_rules.specs.declared.Stage.the-variants.{Opened, Forbidden}
 use Rattle.kernel_rules.specs.Lines.{isGap, span, afterGap, part}
 use Rattle.kernel_rules.specs.Tokens.{isOpen, widthAt, tokenAt, tokensFrom, tokensOf, item, items, withClose}
 use Rattle.kernel_rules.specs.Assignments.{valueStage, equalsAt, isName, valueAt, assigned}
-use Rattle.kernel_tokens.proofs.Tokens.{tokens-next, tokens-end}
+use Rattle.kernel_tokens.proofs.Tokens.{token-first, tokens-here, tokens-end}
 use Rattle.kernel_heads.specs.declared.Part.{Part}
 use Rattle.kernel_heads.specs.Parts.{Named}
 
@@ -43,10 +42,6 @@ gap-passed (b ∷ s) = by-test (isGap b) (λ t. rw (t, succ) (gap-passed s)) (λ
     none : isGap b ≡ false → span isGap (b ∷ s) ≡ 0
     none f = rw f
 
-head-token : (s : List ℕ) → isGap (getD s 0 0) ≡ false → tokenAt s ≡ take (widthAt s) s ∷ []
-unfolding tokenAt
-head-token s f = rw f
-
 module _ (l : List ℕ) (i : ℕ) where
   pub tokens-gap : tokensOf (drop i l) ≡ tokensOf (drop (afterGap l i) l)
   unfolding afterGap
@@ -55,12 +50,6 @@ module _ (l : List ℕ) (i : ℕ) where
   pub after-gap : (a : ℕ) → a ≡ afterGap l i → a < length l → isGap (getD l a 0) ≡ false
   unfolding afterGap
   after-gap a e h = rw (e, ← getD-drop i l (span isGap (drop i l)) 0) (gap-over (drop i l) (omega (arith, length-drop i l)))
-
-  first-byte : getD (drop i l) 0 0 ≡ getD l i 0
-  first-byte = getD-drop i l 0 0 ∙ rw (add-zero i)
-
-  pub first-token : (w : ℕ) → i < length l → isGap (getD l i 0) ≡ false → w ≡ widthAt (drop i l) → tokensOf (drop i l) ≡ take w (drop i l) ∷ tokensOf (drop (i + w) l)
-  first-token w h f e = tokens-next l i h ∙ rw (head-token (drop i l) (ap isGap first-byte ∙ f), ← e)
 
 -- a list, one value, and a value with more behind it
 stage-list : (t : List ℕ) (ts : List (List ℕ)) → isOpen (getD t 0 0) ≡ true → valueStage (t ∷ ts) ≡ items Opened ts
@@ -89,26 +78,22 @@ module _ (l : List ℕ) (from a : ℕ) (e : a ≡ afterGap l from) where
     unfolding widthAt
     open-width b = rw (drop-next l a 0 h, b)
 
-    byte-of : (w : ℕ) → 1 ≤ w → getD (take w (drop a l)) 0 0 ≡ getD l a 0
-    byte-of w k = getD-take w (drop a l) 0 0 k ∙ first-byte l a
-
     pub value-list : (r : Stage) → getD l a 0 ≡ 40 → r ≡ items Opened (tokensOf (drop (a + 1) l)) → r ≡ valueStage (tokensOf (drop from l))
     value-list r b x =
-        x ∙ sym (ap valueStage (from-value ∙ first-token l a 1 h (after-gap l from a e h) (open-width b)) ∙ stage-list (take 1 (drop a l)) (tokensOf (drop (a + 1) l)) (eq-eqb _ _ (byte-of 1 (omega arith) ∙ b)))
+        x ∙ sym (ap valueStage (from-value ∙ tokens-here l a h 1 (after-gap l from a e h) (open-width b)) ∙ stage-list (part l a (a + 1)) (tokensOf (drop (a + 1) l)) (eq-eqb _ _ (token-first l a 1 (omega arith) ∙ b)))
 
     module _ (b : getD l a 0 ≡ 40 → ⊥) (w : ℕ) (ew : w ≡ widthAt (drop a l)) (some : 1 ≤ w) (z : ℕ) (ez : z ≡ afterGap l (a + w)) where
-      here : tokensOf (drop from l) ≡ take w (drop a l) ∷ tokensOf (drop z l)
-      here = from-value ∙ first-token l a w h (after-gap l from a e h) ew ∙ ap (λ (ts : List (List ℕ)). take w (drop a l) ∷ ts) (tokens-gap l (a + w) ∙ rw (← ez))
+      here : tokensOf (drop from l) ≡ part l a (a + w) ∷ tokensOf (drop z l)
+      here = from-value ∙ tokens-here l a h w (after-gap l from a e h) ew ∙ ap (λ (ts : List (List ℕ)). part l a (a + w) ∷ ts) (tokens-gap l (a + w) ∙ rw (← ez))
 
-      closed : isOpen (getD (take w (drop a l)) 0 0) ≡ false
-      closed = ne-eqb _ _ (λ x. b (sym (byte-of w some) ∙ x))
+      closed : isOpen (getD (part l a (a + w)) 0 0) ≡ false
+      closed = ne-eqb _ _ (λ x. b (sym (token-first l a w some) ∙ x))
 
       pub value-more : z < length l → Forbidden ≡ valueStage (tokensOf (drop from l))
-      value-more k = sym (ap valueStage (here ∙ ap (λ (ts : List (List ℕ)). take w (drop a l) ∷ ts) (first-token l z (widthAt (drop z l)) k (after-gap l (a + w) z ez k) refl)) ∙ stage-more _ _ _ closed)
+      value-more k = sym (ap valueStage (here ∙ ap (λ (ts : List (List ℕ)). part l a (a + w) ∷ ts) (tokens-here l z k (widthAt (drop z l)) (after-gap l (a + w) z ez k) refl)) ∙ stage-more _ _ _ closed)
 
-      pub value-one : (t r : Stage) → length l ≤ z → t ≡ items Opened (tokenAt (drop a l)) → r ≡ withClose t → r ≡ valueStage (tokensOf (drop from l))
-      unfolding items
-      value-one t r k x y = y ∙ ap withClose (x ∙ rw (head-token (drop a l) (ap isGap (first-byte l a) ∙ after-gap l from a e h), ← ew)) ∙ sym (ap valueStage (here ∙ rw (tokens-end l z k)) ∙ stage-one (take w (drop a l)) closed)
+      pub value-one : (t r : Stage) → length l ≤ z → t ≡ item Opened (part l a (a + w)) → r ≡ withClose t → r ≡ valueStage (tokensOf (drop from l))
+      value-one t r k x y = y ∙ ap withClose x ∙ sym (ap valueStage (here ∙ rw (tokens-end l z k)) ∙ stage-one (part l a (a + w)) closed)
 
 -- an assignment's own line
 module _ (l : List ℕ) (q : ℕ) (e : q ≡ equalsAt l) where

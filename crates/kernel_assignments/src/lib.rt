@@ -15,7 +15,7 @@ use kernel_lines::line_bytes::after_gap;
 use kernel_lines::line_bytes::same;
 use kernel_rules::LONGEST_LINE;
 use kernel_rules::Stage;
-use kernel_tokens::item_at;
+use kernel_tokens::item;
 use kernel_tokens::items_from;
 use kernel_tokens::width_at;
 use kernel_tokens::with_close;
@@ -184,9 +184,9 @@ fn value_stage(l: &[u8], from: usize) -> Stage
     if l[at] == b'(' {
         return items_from(l, at + 1, Stage::Opened);
     }
-    let width = width_at(l, at);
-    if after_gap(l, at + width) < l.len() {
+    let end = at + width_at(l, at);
+    if after_gap(l, end) < l.len() {
         return Stage::Forbidden;
     }
-    with_close(item_at(l, at, width, Stage::Opened))
+    with_close(item(&l[at..end], Stage::Opened))
 }

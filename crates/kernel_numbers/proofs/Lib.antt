@@ -3,6 +3,7 @@ pub mod Quotients
 pub mod Lengths
 pub mod Exact
 pub mod Steps
+pub mod FewBytes
 pub mod Powers
 pub mod Keeps
 pub mod Whole

@@ -1,5 +1,6 @@
 -- What the code keeps of a run of digits, and the value that it gives.
-use Prim.Native.Nat.{ℕ, _+_, _-_, _*_, _^_}
+use Prim.Native.Nat.{ℕ, _+_, _-_, _*_, _^_, _≤_, _<_}
+use mathlib.Core.Path.{_≡_}
 use mathlib.Core.Bool.{Bool, true, false, _&&_, cond}
 use mathlib.Core.List.{List, [], _∷_}
 use lib.Dec.{eqb, ltb}
@@ -30,6 +31,13 @@ withDigit k d =
 unfoldable pub digitsFrom : Digits → List ℕ → Digits
 digitsFrom k [] = k
 digitsFrom k (b ∷ s) = cond (isDigit b) (digitsFrom (withDigit k (b - 48)) s) k
+
+-- So many digits have room in 64 bits. So of a number in few bytes, what is kept before place i is all of it.
+abbrev pub few : ℕ
+few = 19
+
+abbrev pub Fitting : ℕ → ℕ → Digits → Type 0
+Fitting len i k = len ≤ few → (k .over ≡ false) × (k .zeros ≡ 0) × (k .head < 10 ^ i)
 
 -- an exponent as large as this, or larger, gives what this one gives
 abbrev pub powerCap : ℕ

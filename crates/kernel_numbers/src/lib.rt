@@ -1,13 +1,13 @@
 // A number of a kernel text as a whole number of units: sign, digits, point and exponent, each of any length.
 ghost use mathlib.Core.Path.{_≡_};
-ghost use mathlib.Core.Bool.{_&&_, _||_, cond};
+ghost use mathlib.Core.Bool.{false, _&&_, _||_, cond};
 ghost use Prim.Native.Nat.{_+_, _*_, _-_, _^_, _≤_, _<_, min};
 ghost use lib.Dec.{ltb};
 ghost use lib.ListN.{length, drop, getD};
 ghost use Rattle.rules.specs.Text.{isDigit};
 ghost use Rattle.kernel_rules.specs.Lines.{longestLine};
 ghost use Rattle.kernel_rules.specs.Numbers.{isSign, isPoint, isLetter, afterOne, afterDigits, hasForm, isNumber, followed, withSign, quotient, numberIn};
-ghost use Rattle.kernel_numbers.specs.Pass.{beyond, withDigit, digitsFrom, powerCap, powerSignAfter, minusAfter, valueOf};
+ghost use Rattle.kernel_numbers.specs.Pass.{digits, beyond, few, Fitting, withDigit, digitsFrom, powerCap, powerSignAfter, minusAfter, valueOf};
 use kernel_rules::LONGEST_LINE;
 use kernel_rules::Number;
 
@@ -24,11 +24,20 @@ pub struct Run {
     pub digits: Digits,
 }
 
+// The same where the digits have room.
+pub struct Few {
+    pub at: usize,
+    pub head: u64,
+}
+
 // The exponent up to the place `at`, without its sign.
 pub struct Power {
     pub at: usize,
     pub value: usize,
 }
+
+// So many digits have room in 64 bits.
+const FEW: usize = 19;
 
 const POWER_CAP: usize = 1000;
 
@@ -79,7 +88,7 @@ fn read_short(w: &[u8], scale: usize) -> Number
     ensures { λ r. ⌜ r ≡ numberIn scale (now (w .entry)) ⌝ }
 {
     let sign_end = after_sign(w, 0);
-    let whole = run_on(
+    let whole = digits_from(
         w,
         sign_end,
         Digits {
@@ -90,7 +99,7 @@ fn read_short(w: &[u8], scale: usize) -> Number
     );
     let whole_end = whole.at;
     let point_end = after_point(w, whole_end);
-    let both = run_on(w, point_end, whole.digits);
+    let both = digits_from(w, point_end, whole.digits);
     let decimals_end = both.at;
     let letter_end = after_letter(w, decimals_end);
     let power_sign_end = after_power_sign(w, decimals_end, letter_end);
@@ -130,7 +139,50 @@ fn well_formed(digits: usize, plain: bool, power: bool, end: bool) -> bool
     false
 }
 
-// The digits from `from` on, as more of the number `begun`.
+// The digits from `from` on, as more of the number `begun`. Few bytes hold no number that is too large.
+fn digits_from(w: &[u8], from: usize, begun: Digits) -> Run
+    requires { ⌜ (begun .zeros ≤ from) × (from ≤ length (now w)) ⌝ }
+    requires { ⌜ Fitting (length (now w)) from begun ⌝ }
+    ensures { λ r. ⌜ r .at ≡ afterDigits (now (w .entry)) from ⌝ }
+    ensures { λ r. ⌜ r .digits ≡ digitsFrom begun (drop from (now (w .entry))) ⌝ }
+    ensures { λ r. ⌜ (from ≤ r .at) × (r .digits .zeros ≤ r .at) × (r .at ≤ length (now (w .entry))) ⌝ }
+    ensures { λ r. ⌜ Fitting (length (now (w .entry))) (r .at) (r .digits) ⌝ }
+{
+    if FEW < w.len() {
+        return run_on(w, from, begun);
+    }
+    let few = run_few(w, from, begun.head);
+    Run {
+        at: few.at,
+        digits: Digits {
+            over: false,
+            head: few.head,
+            zeros: 0,
+        },
+    }
+}
+
+// The same of so few bytes that every digit has room.
+fn run_few(w: &[u8], from: usize, begun: u64) -> Few
+    requires { ⌜ (from ≤ length (now w)) × (length (now w) ≤ few) × (begun < 10 ^ from) ⌝ }
+    ensures { λ r. ⌜ r .at ≡ afterDigits (now (w .entry)) from ⌝ }
+    ensures { λ r. ⌜ digits false (r .head) 0 ≡ digitsFrom (digits false begun 0) (drop from (now (w .entry))) ⌝ }
+    ensures { λ r. ⌜ (from ≤ r .at) × (r .at ≤ length (now (w .entry))) × (r .head < 10 ^ r .at) ⌝ }
+{
+    let mut at = from;
+    let mut head = begun;
+    while at < w.len() {
+        let byte = w[at];
+        if !is_digit(byte) {
+            return Few { at, head };
+        }
+        head = appended(head, byte - b'0');
+        at += 1;
+    }
+    Few { at, head }
+}
+
+// The same of any number of bytes.
 fn run_on(w: &[u8], from: usize, begun: Digits) -> Run
     requires { ⌜ (begun .zeros ≤ from) × (from ≤ length (now w)) ⌝ }
     ensures { λ r. ⌜ r .at ≡ afterDigits (now (w .entry)) from ⌝ }

@@ -1,16 +1,16 @@
 -- What tokens do to a list, as the code meets them.
 use Prim.Native.Nat.{ℕ, _+_, _≤_, _<_}
-use mathlib.Core.Path.{_≡_, refl, sym, ap, _∙_}
+use mathlib.Core.Path.{_≡_, sym, ap, _∙_}
 use mathlib.Core.Bool.{Bool, true, false}
-use mathlib.Core.List.{List, [], _∷_, _++_}
+use mathlib.Core.List.{List}
 use lib.ListN.{length, drop, getD}
 use borrow.Author.Tests.{eq-eqb, ne-eqb}
 use Rattle.kernel_rules.specs.declared.Stage.{Stage}
 use Rattle.kernel_rules.specs.declared.Stage.the-variants.{Forbidden}
 use Rattle.kernel_rules.specs.Lines.{isGap, part}
 use Rattle.kernel_rules.specs.Numbers.{isNumber}
-use Rattle.kernel_rules.specs.Tokens.{widthAt, tokenAt, tokensOf, isString, isNumberOrDate, withNumber, withString, withComma, withClose, itemBy, item, items}
-use Rattle.kernel_tokens.proofs.Tokens.{token-none, token-here, tokens-next, tokens-end}
+use Rattle.kernel_rules.specs.Tokens.{widthAt, tokensOf, isString, isNumberOrDate, withNumber, withString, withComma, withClose, itemBy, item, items}
+use Rattle.kernel_tokens.proofs.Tokens.{tokens-gap, tokens-here, tokens-end}
 
 pub date-here : (t : List ℕ) → getD t 0 0 ≡ 64 → true ≡ isNumberOrDate t
 unfolding isNumberOrDate
@@ -44,25 +44,14 @@ pub item-open : (t : List ℕ) (p : Stage) → (getD t 0 0 ≡ 44 → ⊥) → g
 unfolding item itemBy
 item-open t p a y = rw (ne-eqb (getD t 0 0) 44 a, eq-eqb (getD t 0 0) 40 y)
 
--- the token at a place, if there is one
-module _ (l : List ℕ) (i : ℕ) (p : Stage) (g : Bool) (e : g ≡ isGap (getD l i 0)) where
-  pub at-gap : g ≡ true → p ≡ items p (tokenAt (drop i l))
-  unfolding items
-  at-gap y = rw (token-none l i (sym e ∙ y))
-
-  pub at-token : (w : ℕ) (r : Stage) → g ≡ false → w ≡ widthAt (drop i l) → r ≡ item p (part l i (i + w)) → r ≡ items p (tokenAt (drop i l))
-  unfolding items
-  at-token w r n u x = x ∙ rw (token-here l i w (sym e ∙ n) u)
-
 -- the tokens from a place on
-pub items-append : (p : Stage) (ts us : List (List ℕ)) → items p (ts ++ us) ≡ items (items p ts) us
-unfolding items
-items-append p [] us = refl
-items-append p (t ∷ ts) us = items-append (item p t) ts us
-
 module _ (l : List ℕ) (i : ℕ) (p R : Stage) (e : R ≡ items p (tokensOf (drop i l))) where
-  pub items-turn : (w : ℕ) (r : Stage) → i < length l → w ≡ widthAt (drop i l) → r ≡ items p (tokenAt (drop i l)) → R ≡ items r (tokensOf (drop (i + w) l))
-  items-turn w r h u x = e ∙ ap (items p) (tokens-next l i h) ∙ items-append p (tokenAt (drop i l)) (tokensOf (drop (i + widthAt (drop i l)) l)) ∙ rw (← x, ← u)
+  pub items-gap : (g : Bool) → i < length l → g ≡ isGap (getD l i 0) → g ≡ true → R ≡ items p (tokensOf (drop (i + 1) l))
+  items-gap g h d y = e ∙ ap (items p) (tokens-gap l i h (sym d ∙ y))
+
+  pub items-turn : (g : Bool) (w : ℕ) (r : Stage) → i < length l → g ≡ isGap (getD l i 0) → g ≡ false → w ≡ widthAt (drop i l) → r ≡ item p (part l i (i + w)) → R ≡ items r (tokensOf (drop (i + w) l))
+  unfolding items
+  items-turn g w r h d n u x = e ∙ ap (items p) (tokens-here l i h w (sym d ∙ n) u) ∙ rw x
 
   pub items-end : length l ≤ i → p ≡ R
   unfolding items

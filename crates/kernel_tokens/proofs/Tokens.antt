@@ -57,6 +57,10 @@ module _ (l : List ℕ) (i : ℕ) (t : Bool) (h : i < length l) (e : t ≡ endsV
   unfolding widthAt
   width-value w n y p = rw (drop-next l i 0 h, ← e, n, ne-eqb (getD l i 0) 39 y, p)
 
+gap-width : (l : List ℕ) (i : ℕ) → i < length l → isGap (getD l i 0) ≡ true → widthAt (drop i l) ≡ 1
+unfolding widthAt
+gap-width l i h y = rw (drop-next l i 0 h, y)
+
 -- the token at a place, if there is one
 first-byte : (l : List ℕ) (i : ℕ) → getD (drop i l) 0 0 ≡ getD l i 0
 first-byte l i = getD-drop i l 0 0 ∙ rw (add-zero i)
@@ -103,6 +107,14 @@ tokens-next l i h =
 
     sum : i + 1 + (widthAt (drop i l) - 1) ≡ i + widthAt (drop i l)
     sum = omega (arith, width-some (drop i l) (omega (arith, length-drop i l)))
+
+-- in a gap, and at a token
+module _ (l : List ℕ) (i : ℕ) (h : i < length l) where
+  pub tokens-gap : isGap (getD l i 0) ≡ true → tokensOf (drop i l) ≡ tokensOf (drop (i + 1) l)
+  tokens-gap y = tokens-next l i h ∙ rw (token-none l i y, gap-width l i h y)
+
+  pub tokens-here : (w : ℕ) → isGap (getD l i 0) ≡ false → w ≡ widthAt (drop i l) → tokensOf (drop i l) ≡ part l i (i + w) ∷ tokensOf (drop (i + w) l)
+  tokens-here w n u = tokens-next l i h ∙ rw (token-here l i w n u, ← u)
 
 pub tokens-end : (l : List ℕ) (i : ℕ) → length l ≤ i → tokensOf (drop i l) ≡ []
 unfolding tokensFrom

@@ -22,9 +22,13 @@ pub fn items_from(l: &[u8], from: usize, start: Stage) -> Stage
     let mut i = from;
     let mut p = start;
     while i < l.len() {
-        let w = width_at(l, i);
-        p = item_at(l, i, w, p);
-        i += w;
+        if is_gap(l[i]) {
+            i += 1;
+        } else {
+            let end = i + width_at(l, i);
+            p = item(&l[i..end], p);
+            i = end;
+        }
     }
     p
 }
@@ -43,19 +47,6 @@ pub fn width_at(l: &[u8], i: usize) -> usize
         return string_width(l, i + 1) + 1;
     }
     value_width(l, i + 1) + 1
-}
-
-// What the token of width w at place i, if it is one, does to a list.
-pub fn item_at(l: &[u8], i: usize, w: usize, p: Stage) -> Stage
-    requires { ⌜ (1 ≤ w) × (i + w ≤ length (now l)) ⌝ }
-    requires { ⌜ w ≡ widthAt (drop i (now l)) ⌝ }
-    ensures { λ r. ⌜ r ≡ items p (tokenAt (drop i (now (l .entry)))) ⌝ }
-{
-    if is_gap(l[i]) {
-        return p;
-    }
-    let end = i + w;
-    item(&l[i..end], p)
 }
 
 // What a token does to a list.

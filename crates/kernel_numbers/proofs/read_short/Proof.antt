@@ -1,3 +1,4 @@
+use Rattle.kernel_numbers.proofs.FewBytes.{fitting-none, fitting-later}
 use Rattle.kernel_numbers.proofs.Whole.{number-bad, number-good}
 use borrow.Author.Needs.{needs}
 use Rattle.kernel_numbers.proofs.read_short.Statement.{statement}
@@ -7,15 +8,15 @@ returns-2 : tie.Need-returns-2
 returns-2 c =
     number-good _ _ _ _ _ _ _ _
     (c .before .before .before .before .before .before .before .before .before .before .before .after-sign .ensures .0)
-    (c .before .before .before .before .before .before .before .before .before .before .run-on .ensures .0)
+    (c .before .before .before .before .before .before .before .before .before .before .digits-from .ensures .0)
     (c .before .before .before .before .before .before .before .before .before .after-point .ensures .0)
-    (c .before .before .before .before .before .before .before .before .run-on2 .ensures .0)
+    (c .before .before .before .before .before .before .before .before .digits-from2 .ensures .0)
     (c .before .before .before .before .before .before .before .after-letter .ensures .0)
     (c .before .before .before .before .before .before .after-power-sign .ensures .0)
     (c .before .before .before .before .before .read-power .ensures .0)
     _ _
-    (c .before .before .before .before .before .before .before .before .before .before .run-on .ensures .1 .0)
-    (c .before .before .before .before .before .before .before .before .run-on2 .ensures .1 .0)
+    (c .before .before .before .before .before .before .before .before .before .before .digits-from .ensures .1 .0)
+    (c .before .before .before .before .before .before .before .before .digits-from2 .ensures .1 .0)
     _ _ _ _ _ _
     (c .before .before .before .before .before .before .before .before .before .before .before .before .before .pre .0)
     (c .before .before .before .before .before .before .before .before .before .before .before .before .before .pre .1)
@@ -31,9 +32,9 @@ read-short-spec =
     tie.close
     (tie.spec
     (λ c κs. search needs)
+    (λ c κs. (search needs, fitting-none _ _))
     (λ c κs. search needs)
-    (λ c κs. search needs)
-    (λ c κs. search needs)
+    (λ c κs. (search needs, fitting-later _ _ _ _ (search needs) (c .before .digits-from .ensures .1 .1 .1)))
     (λ c κs. search needs)
     (λ c κs. search needs)
     (λ c κs. search needs)
