@@ -3,7 +3,7 @@ ghost use mathlib.Core.Path.{_≡_};
 ghost use Rattle.kernel_rules.specs.Tables.{listsOf};
 ghost use Rattle.kernel_rules.specs.Kernel.{kernelAnswer, kernelGiven, readKernel, listsAfter};
 ghost use Rattle.kernel_tables.specs.Given.{tablesWith};
-ghost use Rattle.kernel_gather.specs.Listed.{Room};
+ghost use Rattle.kernel_listing.specs.Listed.{Room};
 ghost use Rattle.kernel_gather.specs.Gathered.{tablesIn, WithinRoom};
 ghost use Rattle.kernel.specs.Read.{fitting};
 use kernel_gather::GatherAnswer;

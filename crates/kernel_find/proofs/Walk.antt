@@ -129,7 +129,7 @@ module _ (s : List ℕ) (from : ℕ) (digits slots : List ℕ) (at : ℕ) (stage
           good = taken-slot (part s at (r .end)) (linesFrom s (r .next)) (lines-here s at r er h) k ek hk f;
           assigned = λ x. absurd (not-both x refl);
           long = w .long;
-          within = w .before;
+          within = record { place = w .before };
           behind = w .behind;
         }
 
@@ -153,7 +153,7 @@ module _ (s : List ℕ) (from : ℕ) (digits slots : List ℕ) (at : ℕ) (stage
           good = e ∙ rw (stage-last, few) (sym (and-true (endsWell stage)));
           assigned = λ x k l. all-given k l;
           long = w .long;
-          within = w .before;
+          within = record { place = w .before };
           behind = w .behind;
         }
       where

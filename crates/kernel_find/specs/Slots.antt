@@ -25,10 +25,14 @@ assignmentAt s at = assignment (part s at (lineAt s at .end)) (kernelLines (drop
 unfoldable pub slotAt : List ℕ → ℕ → List Assignment
 slotAt s n = cond (eqb n 0) [] (assignmentAt s n ∷ [])
 
+-- every place is in the text
+pub record Placed (length-of : ℕ) (slots : List ℕ) : Type 0 where
+  pub place : (k : ℕ) → k < names → getD slots k 0 < length-of
+
 -- what the pass answers of the lines from a place on
 pub record FoundAll (s : List ℕ) (from : ℕ) (digits : List ℕ) (r : Found) : Type 0 where
   pub good : r .good ≡ formOk digits (kernelLines (drop from s))
   pub assigned : r .good ≡ true → (k : ℕ) → k < names → given digits k Comment (kernelLines (drop from s)) ≡ slotAt s (getD (r .slots) k 0)
   pub long : length (r .slots) ≡ names + 1
-  pub within : (k : ℕ) → k < names → getD (r .slots) k 0 < length s
+  pub within : Placed (length s) (r .slots)
   pub behind : (k : ℕ) → k < names → 0 < getD (r .slots) k 0 → from ≤ getD (r .slots) k 0

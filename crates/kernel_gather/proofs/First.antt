@@ -1,6 +1,6 @@
 -- The first line, and the lines after it.
-use Prim.Native.Nat.{ℕ, _+_, _-_, _≤_, _<_}
-use mathlib.Core.Path.{_≡_, refl, sym, ap, _∙_}
+use Prim.Native.Nat.{ℕ, _-_, _≤_, _<_}
+use mathlib.Core.Path.{_≡_, sym, _∙_}
 use mathlib.Core.Bool.{Bool, true, false, not}
 use mathlib.Core.List.{List, [], _∷_}
 use lib.IntN.{ℤ}
@@ -11,15 +11,14 @@ use mir.Val.{SFits, toZ, ofZ}
 use mir.Facts.{toZ-ofZ}
 use borrow.Author.Tests.{not-true, not-false}
 use native.Mathlib.Omega.{arith}
-use Rattle.rules.specs.Answer.{Answer, unless, numbered}
-use Rattle.kernel_rules.specs.Lines.{kernelLines, part, firstLine, same}
+use Rattle.rules.specs.Answer.{unless, numbered}
+use Rattle.kernel_rules.specs.Lines.{kernelLines, firstLine, same}
 use Rattle.kernel_rules.specs.Names.{clockDigits}
-use Rattle.kernel_rules.specs.Tables.{Tables}
 use Rattle.kernel_lines.specs.declared.Line.{Line}
 use Rattle.kernel_lines.specs.Places.{lineAt}
 use Rattle.kernel_lines.proofs.Places.{lines-at, lines-none}
 use Rattle.kernel_gather.specs.declared.GatherAnswer.{GatherAnswer}
-use Rattle.kernel_gather.specs.declared.GatherAnswer.the-variants.{Given, Refused}
+use Rattle.kernel_gather.specs.declared.GatherAnswer.the-variants.{Refused}
 use Rattle.kernel_gather.specs.Gathered.{assignedTables, linesTables, kept, gathered}
 
 -- a part of a list within it

@@ -1,16 +1,15 @@
 -- From the passes over a text to its tables.
-use Prim.Native.Nat.{ℕ, _≤_, _<_}
+use Prim.Native.Nat.{ℕ, _<_}
 use mathlib.Core.Path.{_≡_, refl, sym, ap, _∙_}
-use mathlib.Core.Bool.{Bool, true, false, not, _&&_, cond}
+use mathlib.Core.Bool.{true, false, not}
 use mathlib.Core.List.{List, [], _∷_, map}
-use lib.IntN.{ℤ, pos}
-use lib.ListN.{length, take, drop, getD}
+use lib.IntN.{ℤ}
+use lib.ListN.{drop, getD}
 use borrow.Author.Tests.{not-true, not-false}
 use native.Mathlib.Omega.{arith}
-use Rattle.base.specs.Scans.{allBelow}
-use Rattle.base.proofs.Tests.{by-test, not-both, and-first, and-second}
+use Rattle.base.proofs.Tests.{by-test, and-first, and-second}
 use Rattle.rules.specs.declared.Refusal.{Refusal}
-use Rattle.rules.specs.Answer.{Answer, answer, refused, refuse, unless, numbered}
+use Rattle.rules.specs.Answer.{unless, numbered}
 use Rattle.kernel_rules.specs.declared.Stage.the-variants.{Comment}
 use Rattle.kernel_rules.specs.Lines.{kernelLines}
 use Rattle.kernel_rules.specs.Assignments.{afterLines, endsWell}
@@ -19,15 +18,16 @@ use Rattle.kernel_rules.specs.Tables.{Tables, every, values, valuesGiven, assig
 use Rattle.kernel_tables.specs.Given.{clipped}
 use Rattle.kernel_find.specs.declared.Found.{Found}
 use Rattle.kernel_find.specs.Slots.{formOk, slotAt, FoundAll}
-use Rattle.kernel_values.specs.Reads.{signedOr0, timesOf, ratesOf}
+use Rattle.kernel_values.specs.Reads.{signedOr0, timesOf}
 use Rattle.kernel_gather.specs.declared.Gathered.{Gathered}
 use Rattle.kernel_gather.specs.declared.GatherAnswer.{GatherAnswer}
 use Rattle.kernel_gather.specs.declared.GatherAnswer.the-variants.{Given, Refused}
-use Rattle.kernel_gather.specs.declared.heading.Heading.{Heading}
-use Rattle.kernel_gather.specs.declared.listing.Listing.{Listing}
-use Rattle.kernel_gather.specs.Names.{headingOf, listsGood, listsExact, rowsExact}
-use Rattle.kernel_gather.specs.Listed.{Room, Filled, ListsKept}
-use Rattle.kernel_gather.specs.Gathered.{assignedTables, kept, tablesIn, gathered, gatheredOf, settled, WithinRoom, AllWithin}
+use Rattle.kernel_heading.specs.declared.Heading.{Heading}
+use Rattle.kernel_listing.specs.declared.Listing.{Listing}
+use Rattle.kernel_heading.specs.Names.{headingOf}
+use Rattle.kernel_listing.specs.Lists.{listsExact}
+use Rattle.kernel_listing.specs.Listed.{Filled, ListsKept}
+use Rattle.kernel_gather.specs.Gathered.{assignedTables, kept, tablesIn, gathered, gatheredOf, settled, AllWithin}
 use Rattle.kernel_gather.proofs.Ladder.{bad-form, bad-heading, bad-lists, all-good, inexact-heading, inexact-lists, all-exact, tables-are, lists-facts}
 
 -- what `settle` answers

@@ -6,7 +6,7 @@ use mathlib.Core.List.{List, [], _∷_}
 use native.Mathlib.Omega.{arith}
 use Rattle.base.specs.Scans.{allOf, allBelow, among}
 use Rattle.base.proofs.Tests.{by-test, not-both, and-both, and-first, and-second, all-of-head, all-of-tail}
-use Rattle.base.proofs.Scans.{all-at, all-from}
+use Rattle.base.proofs.Scans.{all-from}
 use lib.Dec.{eqb, leb}
 use lib.ListN.{length}
 use borrow.Author.Tests.{eqb-true}
@@ -15,48 +15,11 @@ use Rattle.kernel_rules.specs.declared.Number.the-variants.{Malformed, Inexact,
 use Rattle.kernel_rules.specs.declared.Stage.the-variants.{Comment}
 use Rattle.kernel_rules.specs.Assignments.{afterLines, endsWell}
 use Rattle.kernel_rules.specs.Names.{Assignment, given, names}
-use Rattle.kernel_rules.specs.Tables.{
-  Tables,
-  nameOk,
-  valuesGiven,
-  values,
-  isExactly,
-  typeOk,
-  systemOk,
-  assignmentsOk,
-  isUnsigned,
-  unsigned,
-  isSigned,
-  areWhole,
-  every,
-  inNanoseconds,
-  inPicoseconds,
-  countsIn,
-  timesIn,
-  ratesIn,
-  exactOk,
-  firstOr,
-  tablesOf,
-}
-use Rattle.kernel_gather.specs.Names.{numberGiven, isSystem, systemOf, headingOf, listOk, listsGood, listsExact, rowsExact}
-use Rattle.kernel_gather.proofs.Names.{
-  OneValue,
-  one-value,
-  type-same,
-  whole-same,
-  first-same,
-  System,
-  system,
-  Nineteen,
-  nineteen,
-  no-nineteen,
-  refused-19,
-  list-same,
-  all-ten,
-  HeadingFacts,
-  heading-facts,
-  facts-heading,
-}
+use Rattle.kernel_rules.specs.Tables.{nameOk, valuesGiven, values, isExactly, typeOk, systemOk, assignmentsOk, isUnsigned, unsigned, isSigned, areWhole, every, inNanoseconds, inPicoseconds, countsIn, timesIn, ratesIn, exactOk, tablesOf}
+use Rattle.kernel_heading.specs.Names.{numberGiven, isSystem, systemOf, headingOf}
+use Rattle.kernel_heading.proofs.Names.{OneValue, one-value, type-same, whole-same, first-same, system, HeadingFacts, heading-facts, facts-heading}
+use Rattle.kernel_listing.specs.Lists.{listOk, listsGood, listsExact, rowsExact}
+use Rattle.kernel_gather.proofs.Names.{Nineteen, no-nineteen, refused-19, list-same, all-ten}
 
 -- a name that is given as it may be is given at most once
 once : (k : ℕ) (g : List Assignment) → nameOk k g ≡ true → leb (length g) 1 ≡ true

@@ -12,8 +12,8 @@ use Rattle.kernel_tables.specs.Given.{tablesWith, clipped, fieldRoom, partition
 use Rattle.kernel_gather.specs.declared.Gathered.{Gathered}
 use Rattle.kernel_gather.specs.declared.GatherAnswer.{GatherAnswer}
 use Rattle.kernel_gather.specs.declared.GatherAnswer.the-variants.{Given, Refused}
-use Rattle.kernel_gather.specs.declared.heading.Heading.{Heading}
-use Rattle.kernel_gather.specs.declared.listing.Listing.{Listing}
+use Rattle.kernel_heading.specs.declared.Heading.{Heading}
+use Rattle.kernel_listing.specs.declared.Listing.{Listing}
 
 -- the ladder of `linesRead`: 19 and 20 of the lines after the first
 unfoldable pub assignedTables : List ℕ → List (List ℕ) → Answer Tables

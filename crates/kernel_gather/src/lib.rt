@@ -5,20 +5,17 @@ ghost use Prim.Native.Nat.{_<_, _≤_};
 ghost use lib.ListN.{length, drop};
 ghost use Rattle.kernel_rules.specs.Lines.{kernelLines};
 ghost use Rattle.kernel_rules.specs.Names.{clockDigits};
-ghost use Rattle.kernel_gather.specs.Listed.{Room};
+ghost use Rattle.kernel_listing.specs.Listed.{Room};
 ghost use Rattle.kernel_gather.specs.Gathered.{linesTables, assignedTables, kept, gathered, settled, AllWithin};
-use crate::heading::Heading;
-use crate::heading::read_heading;
-use crate::listing::Listing;
-use crate::listing::read_lists;
 use kernel_find::find;
+use kernel_heading::Heading;
+use kernel_heading::read_heading;
 use kernel_lines::line_bytes::same;
 use kernel_lines::line_within;
+use kernel_listing::Listing;
+use kernel_listing::read_lists;
 use kernel_names::clock_digits;
 use rules::Refusal;
-
-pub mod heading;
-pub mod listing;
 
 // What a text gives beside its lists, and how many numbers of each list are kept.
 pub struct Gathered {

@@ -3,7 +3,7 @@
 --     stored-front      what the lent list then begins with
 use Prim.Native.Nat.{ℕ, suc, _+_, _≤_, _<_, min}
 use mathlib.Core.Path.{_≡_, refl, sym, ap, _∙_}
-use mathlib.Core.Bool.{Bool, true, false, cond, _&&_}
+use mathlib.Core.Bool.{Bool, false, cond, and-true}
 use mathlib.Core.List.{List, [], _∷_}
 use lib.Dec.{eqb}
 use lib.IntN.{ℤ}
@@ -78,19 +78,15 @@ module _ {A : Type 0} (c k : ℕ) (out y : List A) where
 pub last-column : (c : ℕ) → c < 3 → (c ≡ 0 → ⊥) → (c ≡ 1 → ⊥) → c ≡ 2
 last-column c h p q = omega arith
 
-and-true : (a : Bool) → a ≡ (a && true)
-and-true true = refl
-and-true false = refl
-
 -- what is judged of a value, by its column
 module _ (c : ℕ) (s : List ℕ) (n : Number) (j : Judged) where
   pub judged-count : c ≡ 0 → n ≡ numberIn 0 s → j ≡ judged (isFormed n) (isUnsigned n) → j ≡ judgedIn c s
   unfolding judgedIn exactIn
-  judged-count e en ej = ej ∙ rw (en, e, formed-is 0 s) (ap (judged (isNumber s)) (and-true (isUnsigned (numberIn 0 s))))
+  judged-count e en ej = ej ∙ rw (en, e, formed-is 0 s) (ap (judged (isNumber s)) (sym (and-true (isUnsigned (numberIn 0 s)))))
 
   pub judged-time : c ≡ 1 → n ≡ numberIn 9 s → j ≡ judged (isFormed n) (isSigned n) → j ≡ judgedIn c s
   unfolding judgedIn exactIn
-  judged-time e en ej = ej ∙ rw (en, e, formed-is 9 s) (ap (judged (isNumber s)) (and-true (isSigned (numberIn 9 s))))
+  judged-time e en ej = ej ∙ rw (en, e, formed-is 9 s) (ap (judged (isNumber s)) (sym (and-true (isSigned (numberIn 9 s)))))
 
   pub judged-rate : c ≡ 2 → n ≡ numberIn 12 s → j ≡ judged (isFormed n) (isUnsigned n) → j ≡ judgedIn c s
   unfolding judgedIn exactIn

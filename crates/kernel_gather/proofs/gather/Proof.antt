@@ -3,12 +3,6 @@ use Rattle.kernel_gather.proofs.First.{cut, cut-room, empty-refused, fi
 use Rattle.kernel_gather.proofs.Gathering.{refused-within}
 use Rattle.kernel_gather.proofs.gather.Statement.{statement}
 use Rattle.kernel_gather.proofs.gather.Tie as tie
-use Rattle.kernel_gather.proofs.gather.Reads as reads
-use Rattle.kernel_gather.proofs.gather.Lts as lts
-use Rattle.kernel_gather.proofs.gather_from.Reads as gather-from-reads
-use Rattle.kernel_lines.proofs.line_bytes.same.Reads as same-reads
-use Rattle.kernel_lines.proofs.line_within.Reads as line-within-reads
-use Rattle.kernel_names.proofs.clock_digits.Reads as clock-digits-reads
 
 -- src/lib.rt:59:9
 returns : tie.Need-returns

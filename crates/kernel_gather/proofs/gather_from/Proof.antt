@@ -3,12 +3,6 @@ use mathlib.Core.Path.{refl}
 use Rattle.kernel_gather.proofs.Gathering.{form-refused, heading-refused, settled-is, settled-within, refused-within}
 use Rattle.kernel_gather.proofs.gather_from.Statement.{statement}
 use Rattle.kernel_gather.proofs.gather_from.Tie as tie
-use Rattle.kernel_gather.proofs.gather_from.Reads as reads
-use Rattle.kernel_gather.proofs.gather_from.Lts as lts
-use Rattle.kernel_find.proofs.find.Reads as find-reads
-use Rattle.kernel_gather.proofs.heading.read_heading.Reads as read-heading-reads
-use Rattle.kernel_gather.proofs.listing.read_lists.Reads as read-lists-reads
-use Rattle.kernel_gather.proofs.settle.Reads as settle-reads
 
 -- src/lib.rt:92:9
 find-requires : tie.Need-find-requires

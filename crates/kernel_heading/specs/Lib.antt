@@ -1,0 +1,2 @@
+-- What is told of the names with one value.
+pub mod Names
