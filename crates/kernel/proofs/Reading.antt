@@ -1,14 +1,11 @@
 -- From what was gathered to the call's definition.
-use Prim.Native.Nat.{ℕ, _≤_}
+use Prim.Native.Nat.{ℕ}
 use mathlib.Core.Path.{_≡_, refl, sym, ap, _∙_}
 use mathlib.Core.List.{List, [], _∷_}
 use lib.IntN.{ℤ}
-use lib.ListN.{length, take}
-use lib.Seq.{length-take-le}
 use mir.Syntax.{w64}
 use mir.Val.{SFits, toZ, ofZ}
 use mir.Facts.{toZ-ofZ}
-use native.Mathlib.Omega.{arith}
 use Rattle.rules.specs.declared.Refusal.{Refusal}
 use Rattle.rules.specs.Answer.{Answer, answer, refused, unless, andThen}
 use Rattle.rules.proofs.Answers.{payload, not-answer}
@@ -16,19 +13,14 @@ use Rattle.tables.proofs.Guards.{then-unless}
 use Rattle.kernel_rules.specs.declared.KernelAnswer.{KernelAnswer}
 use Rattle.kernel_rules.specs.Lines.{kernelLines, firstLine, same}
 use Rattle.kernel_rules.specs.Names.{clockDigits}
-use Rattle.kernel_rules.specs.Tables.{Lists, Tables, values, assignmentsOk, exactOk, tablesOf, tablesAccepted}
+use Rattle.kernel_rules.specs.Tables.{Lists, Tables, values, assignmentsOk, exactOk, tablesAccepted}
 use Rattle.kernel_rules.specs.Kernel.{linesRead, readKernel, kernelAnswer, kernelGiven, listsAfter}
-use Rattle.kernel_tables.specs.Given.{clipped}
 use Rattle.kernel_tables.proofs.Clipped.{clipped-accepted}
 use Rattle.kernel_gather.specs.declared.Gathered.{Gathered}
 use Rattle.kernel_gather.specs.declared.GatherAnswer.{GatherAnswer}
 use Rattle.kernel_gather.specs.declared.GatherAnswer.the-variants.{Given, Refused}
 use Rattle.kernel_gather.specs.Gathered.{assignedTables, linesTables, kept, tablesIn, gathered, WithinRoom, AllWithin}
-use Rattle.kernel.specs.Read.{fitting}
-
--- a part of a list within it
-pub cut : {A : Type 0} (xs : List A) (k room : ℕ) → k ≤ room → length xs ≡ room → k ≡ length (take k xs)
-cut xs k room h e = sym (length-take-le k xs (omega arith))
+use Rattle.kernel_give.specs.Fitting.{fitting}
 
 lines-read : (digits : List ℕ) (ls : List (List ℕ)) → linesRead digits ls ≡ andThen (linesTables digits ls) tablesAccepted
 unfolding linesRead linesTables assignedTables andThen

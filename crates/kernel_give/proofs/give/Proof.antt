@@ -1,11 +1,7 @@
 use borrow.Author.Needs.{needs}
-use Rattle.kernel.proofs.Given.{give-refused, give-short, give-read}
-use Rattle.kernel.proofs.give.Statement.{statement}
-use Rattle.kernel.proofs.give.Tie as tie
-use Rattle.kernel.proofs.give.Reads as reads
-use Rattle.kernel.proofs.give.Lts as lts
-use Rattle.kernel_lists.proofs.hand_out.Reads as hand-out-reads
-use Rattle.kernel_tables.proofs.check.Reads as check-reads
+use Rattle.kernel_give.proofs.Given.{give-refused, give-short, give-read}
+use Rattle.kernel_give.proofs.give.Statement.{statement}
+use Rattle.kernel_give.proofs.give.Tie as tie
 
 -- src/lib.rt:112:11
 check-requires : tie.Need-check-requires
@@ -25,31 +21,31 @@ hand-out-requires c κs = search needs
 
 -- src/lib.rt:118:17
 same-length : tie.Need-same-length
-same-length c = search needs
+same-length c = c .before .before .before .before .before .before .before .before .before .before .before .before .before .moduli .given
 
 -- src/lib.rt:118:17
 same-length-2 : tie.Need-same-length-2
-same-length-2 c = search needs
+same-length-2 c = c .before .before .before .before .before .before .before .before .before .before .before .offsets .given
 
 -- src/lib.rt:118:17
 same-length-3 : tie.Need-same-length-3
-same-length-3 c = search needs
+same-length-3 c = c .before .before .before .before .before .before .before .before .before .starts .given
 
 -- src/lib.rt:118:17
 same-length-4 : tie.Need-same-length-4
-same-length-4 c = search needs
+same-length-4 c = c .before .before .before .before .before .before .before .ends .given
 
 -- src/lib.rt:118:17
 same-length-5 : tie.Need-same-length-5
-same-length-5 c = search needs
+same-length-5 c = c .before .before .before .before .before .counts .given
 
 -- src/lib.rt:118:17
 same-length-6 : tie.Need-same-length-6
-same-length-6 c = search needs
+same-length-6 c = c .before .before .before .times .given
 
 -- src/lib.rt:118:17
 same-length-7 : tie.Need-same-length-7
-same-length-7 c = search needs
+same-length-7 c = c .before .before .rates .given
 
 -- src/lib.rt:118:17
 returns : tie.Need-returns
@@ -63,31 +59,31 @@ returns-2 c = give-refused _ _ (c .before .before .before .check .result) (c .be
 
 -- src/lib.rt:90:1
 same-length-8 : tie.Need-same-length-8
-same-length-8 c = search needs
+same-length-8 c = c .before .before .before .before .before .before .before .before .before .before .before .before .before .moduli .given
 
 -- src/lib.rt:90:1
 same-length-9 : tie.Need-same-length-9
-same-length-9 c = search needs
+same-length-9 c = c .before .before .before .before .before .before .before .before .before .before .before .offsets .given
 
 -- src/lib.rt:90:1
 same-length-10 : tie.Need-same-length-10
-same-length-10 c = search needs
+same-length-10 c = c .before .before .before .before .before .before .before .before .before .starts .given
 
 -- src/lib.rt:90:1
 same-length-11 : tie.Need-same-length-11
-same-length-11 c = search needs
+same-length-11 c = c .before .before .before .before .before .before .before .ends .given
 
 -- src/lib.rt:90:1
 same-length-12 : tie.Need-same-length-12
-same-length-12 c = search needs
+same-length-12 c = c .before .before .before .before .before .counts .given
 
 -- src/lib.rt:90:1
 same-length-13 : tie.Need-same-length-13
-same-length-13 c = search needs
+same-length-13 c = c .before .before .before .times .given
 
 -- src/lib.rt:90:1
 same-length-14 : tie.Need-same-length-14
-same-length-14 c = search needs
+same-length-14 c = c .before .before .rates .given
 
 -- src/lib.rt:90:1
 returns-3 : tie.Need-returns-3

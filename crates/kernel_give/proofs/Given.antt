@@ -1,9 +1,12 @@
 -- From the checks and the handing out to what the call answers and leaves in the lent lists.
-use Prim.Native.Nat.{ℕ}
+use Prim.Native.Nat.{ℕ, _≤_}
 use mathlib.Core.Path.{_≡_, refl, sym, ap, _∙_}
+use mathlib.Core.List.{List}
 use mathlib.Core.Bool.{Bool, true, false, _&&_}
 use lib.Dec.{eqb}
-use lib.ListN.{length}
+use lib.ListN.{length, take}
+use lib.Seq.{length-take-le}
+use native.Mathlib.Omega.{arith}
 use Rattle.rules.specs.declared.Refusal.{Refusal}
 use Rattle.rules.specs.Answer.{Answer, answer, refused, refuse, unless, andThen}
 use Rattle.rules.specs.Accepted.{accepted}
@@ -17,7 +20,7 @@ use Rattle.kernel_rules.specs.declared.KernelAnswer.the-variants as Kernels
 use Rattle.kernel_rules.specs.Tables.{Lists, Tables, layoutIn, partitionsIn, segmentsIn, tablesAccepted}
 use Rattle.kernel_rules.specs.Kernel.{kernelAnswer, kernelGiven, fits, listsAfter}
 use Rattle.kernel_lists.specs.Handed.{handed}
-use Rattle.kernel.specs.Read.{fitting}
+use Rattle.kernel_give.specs.Fitting.{fitting}
 
 -- accepted tables are those that were asked about
 accepted-is : (t u : Tables) → tablesAccepted t ≡ answer u → t ≡ u
@@ -58,3 +61,7 @@ module _ (t : Tables) (lent : Lists) (r : KernelAnswer) (e : kernelAnswer r ≡ 
         let w : fits (t .lists) lent ≡ true = sym f ∙ y in
         let same : answer k ≡ kernelGiven (tablesAccepted t) = rw h at e in
         (same ∙ rw (good, w), l ∙ rw (y, good, w))
+
+-- a part of a list within it
+pub cut : {A : Type 0} (xs : List A) (k room : ℕ) → k ≤ room → length xs ≡ room → k ≡ length (take k xs)
+cut xs k room h e = sym (length-take-le k xs (omega arith))

@@ -1,0 +1,2 @@
+-- What is answered of gathered tables.
+pub mod Fitting
