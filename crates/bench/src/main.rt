@@ -1,7 +1,5 @@
 // The benchmark's questions, asked of the proved calls. Without an argument it asks few of each and prints their checksums; with
 // one it asks many and prints nanoseconds a call behind each checksum. The reference has the same questions.
-mod rows;
-
 use bench_report::often;
 
 const MOST_ROWS: usize = 10000;
@@ -14,7 +12,7 @@ fn main() {
     let mut counts = [0u64; MOST_ROWS];
     let mut times = [0i64; MOST_ROWS];
     let mut rates = [0u64; MOST_ROWS];
-    rows::bench(
+    bench_rows::bench(
         timed,
         &mut counts,
         &mut times,
@@ -24,7 +22,7 @@ fn main() {
         b"time-of-1",
         b"count-at-1",
     );
-    rows::bench(
+    bench_rows::bench(
         timed,
         &mut counts,
         &mut times,
@@ -43,7 +41,7 @@ fn main() {
         often(timed, 1_000_000, 100),
     );
     let asked = often(timed, 10_000, 100);
-    rows::bench(
+    bench_rows::bench(
         timed,
         &mut counts,
         &mut times,
@@ -53,6 +51,6 @@ fn main() {
         b"time-of-10000",
         b"count-at-10000",
     );
-    rows::bench_steps(timed, &counts, &times, &rates, asked);
+    bench_rows::bench_steps(timed, &counts, &times, &rates, asked);
     bench_kernel::bench(timed);
 }

@@ -2,8 +2,8 @@ use borrow.Author.Needs.{needs}
 use Prim.Native.Nat.{_-_, _*_, _≤_}
 use mathlib.Core.Path.{_≡_}
 use lib.ListN.{length}
-use Rattle.bench.proofs.rows.fill.Statement.{statement}
-use Rattle.bench.proofs.rows.fill.Tie as tie
+use Rattle.bench_rows.proofs.fill.Statement.{statement}
+use Rattle.bench_rows.proofs.fill.Tie as tie
 
 abbrev Inv-loop : tie.InvT-loop
 Inv-loop counts₀ times₀ rates₀ rows each last₀ count₀ i₀ counts times rates last count i = (i ≤ rows) × (count ≤ i * 4294967296) × (length counts ≡ length counts₀) × (length times ≡ length times₀) × (length rates ≡ length rates₀)

@@ -1,7 +1,7 @@
 use borrow.Author.Needs.{needs}
 use Prim.Native.Nat.{_-_, _<_}
-use Rattle.bench.proofs.rows.bench_steps.Statement.{statement}
-use Rattle.bench.proofs.rows.bench_steps.Tie as tie
+use Rattle.bench_rows.proofs.bench_steps.Statement.{statement}
+use Rattle.bench_rows.proofs.bench_steps.Tie as tie
 
 abbrev Inv-loop : tie.InvT-loop
 Inv-loop timed counts times rates asked from sum₀ k₀ t10 sum k = sum < 1000000007

@@ -1,7 +1,7 @@
-use Rattle.bench.proofs.Counts.{div-small}
+use Rattle.bench_rows.proofs.Counts.{div-small}
 use borrow.Author.Needs.{needs}
-use Rattle.bench.proofs.rows.bench.Statement.{statement}
-use Rattle.bench.proofs.rows.bench.Tie as tie
+use Rattle.bench_rows.proofs.bench.Statement.{statement}
+use Rattle.bench_rows.proofs.bench.Tie as tie
 
 fill-requires : tie.Need-fill-requires
 fill-requires c κs = ((search needs, search (div-small, needs)), search needs)

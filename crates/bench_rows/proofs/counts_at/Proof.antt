@@ -1,7 +1,7 @@
 use borrow.Author.Needs.{needs}
 use Prim.Native.Nat.{_-_, _<_}
-use Rattle.bench.proofs.rows.counts_at.Statement.{statement}
-use Rattle.bench.proofs.rows.counts_at.Tie as tie
+use Rattle.bench_rows.proofs.counts_at.Statement.{statement}
+use Rattle.bench_rows.proofs.counts_at.Tie as tie
 
 abbrev Inv-loop : tie.InvT-loop
 Inv-loop counts times rates asked most sum₀ x₀ k₀ sum x k = (x < 2147483648) × (sum < 1000000007)
