@@ -20,7 +20,7 @@ use Rattle.kernel_gather.specs.declared.Gathered.{Gathered}
 use Rattle.kernel_gather.specs.declared.GatherAnswer.{GatherAnswer}
 use Rattle.kernel_gather.specs.declared.GatherAnswer.the-variants.{Given, Refused}
 use Rattle.kernel_gather.specs.Gathered.{assignedTables, linesTables, kept, tablesIn, gathered, WithinRoom, AllWithin}
-use Rattle.kernel_give.specs.Fitting.{fitting}
+use Rattle.kernel_give.specs.Fitting.{fitting, Gives}
 
 lines-read : (digits : List ℕ) (ls : List (List ℕ)) → linesRead digits ls ≡ andThen (linesTables digits ls) tablesAccepted
 unfolding linesRead linesTables assignedTables andThen
@@ -58,9 +58,8 @@ module _ (text : List ℕ) (clock : ℤ) (lent : Lists) (ms os ss es cs : List �
     same-read =
         rw (lines-read (clockDigits clock) (kernelLines text), kept-answer (linesTables (clockDigits clock) (kernelLines text)) (tablesIn g ms os ss es cs ts rs) (rw h at e))
 
-    pub read-given : (r : KernelAnswer) (after : Lists) → (kernelAnswer r ≡ kernelGiven (fitting (tablesIn g ms os ss es cs ts rs) lent)) × (after ≡ listsAfter (fitting (tablesIn g ms os ss es cs ts rs) lent) lent)
-        → (kernelAnswer r ≡ kernelGiven (readKernel text clock lent)) × (after ≡ listsAfter (readKernel text clock lent) lent)
-    read-given r after p = rw (← same-read) p
+    pub read-given : (r : KernelAnswer) (after : Lists) → Gives (tablesIn g ms os ss es cs ts rs) lent r after → (kernelAnswer r ≡ kernelGiven (readKernel text clock lent)) × (after ≡ listsAfter (readKernel text clock lent) lent)
+    read-given r after p = rw (← same-read) (p .given, p .lists)
 
   pub read-refused : (k : Refusal) → a ≡ Refused k → (refused k ≡ kernelGiven (readKernel text clock lent)) × (lent ≡ listsAfter (readKernel text clock lent) lent)
   unfolding readKernel gathered andThen kernelGiven listsAfter

@@ -8,7 +8,7 @@ use lib.ListN.{length, take}
 use lib.Seq.{length-take-le}
 use native.Mathlib.Omega.{arith}
 use Rattle.rules.specs.declared.Refusal.{Refusal}
-use Rattle.rules.specs.Answer.{Answer, answer, refused, refuse, unless, andThen}
+use Rattle.rules.specs.Answer.{Answer, answer, refused, numbered, unless, andThen}
 use Rattle.rules.specs.Accepted.{accepted}
 use Rattle.rules.specs.Layout.{layoutOk, productOf, unitOf}
 use Rattle.rules.specs.Partitions.{partitionsOk, totalOf}
@@ -20,7 +20,7 @@ use Rattle.kernel_rules.specs.declared.KernelAnswer.the-variants as Kernels
 use Rattle.kernel_rules.specs.Tables.{Lists, Tables, layoutIn, partitionsIn, segmentsIn, tablesAccepted}
 use Rattle.kernel_rules.specs.Kernel.{kernelAnswer, kernelGiven, fits, listsAfter}
 use Rattle.kernel_lists.specs.Handed.{handed}
-use Rattle.kernel_give.specs.Fitting.{fitting}
+use Rattle.kernel_give.specs.Fitting.{fitting, Gives}
 
 -- accepted tables are those that were asked about
 accepted-is : (t u : Tables) → tablesAccepted t ≡ answer u → t ≡ u
@@ -43,24 +43,24 @@ given-refused (answer u) k h = absurd (not-answer h)
 given-refused (refused j) k h = let z : k ≡ j = cc in rw z
 
 module _ (t : Tables) (lent : Lists) (r : KernelAnswer) (e : kernelAnswer r ≡ kernelGiven (tablesAccepted t)) where
-  pub give-refused : (k : Refusal) → r ≡ Kernels.Refused k → (refused k ≡ kernelGiven (fitting t lent)) × (lent ≡ listsAfter (fitting t lent) lent)
+  pub give-refused : (k : Refusal) → r ≡ Kernels.Refused k → Gives t lent (Kernels.Refused k) lent
   unfolding fitting andThen kernelGiven listsAfter
-  give-refused k h = let w : tablesAccepted t ≡ refused k = given-refused (tablesAccepted t) k (rw h at e) in (rw w, rw w)
+  give-refused k h = let w : tablesAccepted t ≡ refused k = given-refused (tablesAccepted t) k (rw h at e) in record { given = rw w; lists = rw w }
 
   module _ (k : Kernel) (h : r ≡ Kernels.Read k) where
     good : tablesAccepted t ≡ answer t
     good = let a = answered (tablesAccepted t) k (rw h at e) in a .1 ∙ ap (λ (u : Tables). answer u) (sym (accepted-is t (a .0) (a .1)))
 
-    pub give-short : (b : Bool) (after : Lists) → b ≡ fits (t .lists) lent → b ≡ false → after ≡ handed b (t .lists) lent → (refuse 16 ≡ kernelGiven (fitting t lent)) × (after ≡ listsAfter (fitting t lent) lent)
+    pub give-short : (b : Bool) (after : Lists) → b ≡ fits (t .lists) lent → b ≡ false → after ≡ handed b (t .lists) lent → Gives t lent (Kernels.Refused (numbered 16)) after
     unfolding fitting andThen kernelGiven listsAfter unless handed
-    give-short b after f n l = let w : fits (t .lists) lent ≡ false = sym f ∙ n in (rw (good, w), l ∙ rw (n, good, w))
+    give-short b after f n l = let w : fits (t .lists) lent ≡ false = sym f ∙ n in record { given = rw (good, w); lists = l ∙ rw (n, good, w) }
 
-    pub give-read : (b : Bool) (after : Lists) → b ≡ fits (t .lists) lent → b ≡ true → after ≡ handed b (t .lists) lent → (answer k ≡ kernelGiven (fitting t lent)) × (after ≡ listsAfter (fitting t lent) lent)
+    pub give-read : (b : Bool) (after : Lists) → b ≡ fits (t .lists) lent → b ≡ true → after ≡ handed b (t .lists) lent → Gives t lent (Kernels.Read k) after
     unfolding fitting andThen listsAfter unless handed
     give-read b after f y l =
         let w : fits (t .lists) lent ≡ true = sym f ∙ y in
         let same : answer k ≡ kernelGiven (tablesAccepted t) = rw h at e in
-        (same ∙ rw (good, w), l ∙ rw (y, good, w))
+        record { given = same ∙ rw (good, w); lists = l ∙ rw (y, good, w) }
 
 -- a part of a list within it
 pub cut : {A : Type 0} (xs : List A) (k room : ℕ) → k ≤ room → length xs ≡ room → k ≡ length (take k xs)

@@ -1,11 +1,9 @@
 // Gathered tables, checked and handed out: 1, 2 and 3, then 16.
-ghost use mathlib.Core.Path.{_≡_};
 ghost use Rattle.kernel_rules.specs.Tables.{listsOf};
-ghost use Rattle.kernel_rules.specs.Kernel.{kernelAnswer, kernelGiven, listsAfter};
 ghost use Rattle.kernel_tables.specs.Given.{tablesWith};
 ghost use Rattle.kernel_listing.specs.Listed.{Room};
 ghost use Rattle.kernel_gather.specs.Gathered.{tablesIn, WithinRoom};
-ghost use Rattle.kernel_give.specs.Fitting.{fitting};
+ghost use Rattle.kernel_give.specs.Fitting.{Gives};
 use kernel_gather::Gathered;
 use kernel_lists::hand_out;
 use kernel_rules::KernelAnswer;
@@ -31,8 +29,7 @@ pub fn give_gathered(
 ) -> KernelAnswer
     requires { ⌜ Room (now ms) (now os) (now ss) (now es) (now cs) (now ts) (now rs) ⌝ }
     requires { ⌜ WithinRoom g ⌝ }
-    ensures { λ r. ⌜ kernelAnswer r ≡ kernelGiven (fitting (tablesIn g (now (ms .entry)) (now (os .entry)) (now (ss .entry)) (now (es .entry)) (now (cs .entry)) (now (ts .entry)) (now (rs .entry))) (listsOf (now (moduli .entry)) (now (offsets .entry)) (now (starts .entry)) (now (ends .entry)) (now (counts .entry)) (now (times .entry)) (now (rates .entry)))) ⌝ }
-    ensures { λ r. ⌜ listsOf (now (moduli .exit)) (now (offsets .exit)) (now (starts .exit)) (now (ends .exit)) (now (counts .exit)) (now (times .exit)) (now (rates .exit)) ≡ listsAfter (fitting (tablesIn g (now (ms .entry)) (now (os .entry)) (now (ss .entry)) (now (es .entry)) (now (cs .entry)) (now (ts .entry)) (now (rs .entry))) (listsOf (now (moduli .entry)) (now (offsets .entry)) (now (starts .entry)) (now (ends .entry)) (now (counts .entry)) (now (times .entry)) (now (rates .entry)))) (listsOf (now (moduli .entry)) (now (offsets .entry)) (now (starts .entry)) (now (ends .entry)) (now (counts .entry)) (now (times .entry)) (now (rates .entry))) ⌝ }
+    ensures { λ r. ⌜ Gives (tablesIn g (now (ms .entry)) (now (os .entry)) (now (ss .entry)) (now (es .entry)) (now (cs .entry)) (now (ts .entry)) (now (rs .entry))) (listsOf (now (moduli .entry)) (now (offsets .entry)) (now (starts .entry)) (now (ends .entry)) (now (counts .entry)) (now (times .entry)) (now (rates .entry))) r (listsOf (now (moduli .exit)) (now (offsets .exit)) (now (starts .exit)) (now (ends .exit)) (now (counts .exit)) (now (times .exit)) (now (rates .exit))) ⌝ }
 {
     let m = g.moduli;
     let o = g.offsets;
@@ -82,8 +79,7 @@ fn give(
     rs: &[u64],
     rates: &mut [u64],
 ) -> KernelAnswer
-    ensures { λ r. ⌜ kernelAnswer r ≡ kernelGiven (fitting (tablesWith n delimiter system (now (ms .entry)) (now (os .entry)) (now (ss .entry)) (now (es .entry)) (now (cs .entry)) (now (ts .entry)) (now (rs .entry))) (listsOf (now (moduli .entry)) (now (offsets .entry)) (now (starts .entry)) (now (ends .entry)) (now (counts .entry)) (now (times .entry)) (now (rates .entry)))) ⌝ }
-    ensures { λ r. ⌜ listsOf (now (moduli .exit)) (now (offsets .exit)) (now (starts .exit)) (now (ends .exit)) (now (counts .exit)) (now (times .exit)) (now (rates .exit)) ≡ listsAfter (fitting (tablesWith n delimiter system (now (ms .entry)) (now (os .entry)) (now (ss .entry)) (now (es .entry)) (now (cs .entry)) (now (ts .entry)) (now (rs .entry))) (listsOf (now (moduli .entry)) (now (offsets .entry)) (now (starts .entry)) (now (ends .entry)) (now (counts .entry)) (now (times .entry)) (now (rates .entry)))) (listsOf (now (moduli .entry)) (now (offsets .entry)) (now (starts .entry)) (now (ends .entry)) (now (counts .entry)) (now (times .entry)) (now (rates .entry))) ⌝ }
+    ensures { λ r. ⌜ Gives (tablesWith n delimiter system (now (ms .entry)) (now (os .entry)) (now (ss .entry)) (now (es .entry)) (now (cs .entry)) (now (ts .entry)) (now (rs .entry))) (listsOf (now (moduli .entry)) (now (offsets .entry)) (now (starts .entry)) (now (ends .entry)) (now (counts .entry)) (now (times .entry)) (now (rates .entry))) r (listsOf (now (moduli .exit)) (now (offsets .exit)) (now (starts .exit)) (now (ends .exit)) (now (counts .exit)) (now (times .exit)) (now (rates .exit))) ⌝ }
 {
     match check(n, delimiter, system, ms, os, ss, es, cs, ts, rs) {
         KernelAnswer::Refused(k) => KernelAnswer::Refused(k),

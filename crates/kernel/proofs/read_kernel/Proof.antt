@@ -80,7 +80,7 @@ give-gathered-requires c κs = (
 
 -- src/lib.rt:23:1
 returns : tie.Need-returns
-returns c = read-refused _ _ _ _ _ _ _ _ _ _ (c .before .before .before .before .before .before .before .before .before .before .gather .result) (search needs) (c .before .before .before .before .before .before .before .before .before .before .gather .ensures .0) (c .before .k .given .0 .0) (search needs)
+returns c = read-refused _ _ _ _ _ _ _ _ _ _ (c .before .before .before .before .before .before .before .before .before .before .gather .result) (record { sfits = c .before .before .before .before .before .before .before .before .before .before .before .before .before .before .before .before .before .before .before .before .before .before .before .before .before .good .1 .0 }) (c .before .before .before .before .before .before .before .before .before .before .gather .ensures .0) (c .before .k .given .0 .0) (c .before .k .given .1)
 
 -- src/lib.rt:23:1
 same-length : tie.Need-same-length
