@@ -54,31 +54,31 @@ all-five-requires-2 c κs = search needs
 
 -- src/listing.rt:43:1
 same-length : tie.Need-same-length
-same-length c = search (c .before .before .before .before .before .before .before .before .before .before .before .before .before .before .before .before .before .before .before .before .before .before .before .before .moduli .given, needs)
+same-length c = c .before .before .before .before .before .before .before .before .before .before .before .before .before .before .before .before .before .before .before .before .before .before .before .before .moduli .given
 
 -- src/listing.rt:43:1
 same-length-2 : tie.Need-same-length-2
-same-length-2 c = search (c .before .before .before .before .before .before .before .before .before .before .before .before .before .before .before .before .before .before .before .before .offsets .given, needs)
+same-length-2 c = c .before .before .before .before .before .before .before .before .before .before .before .before .before .before .before .before .before .before .before .before .offsets .given
 
 -- src/listing.rt:43:1
 same-length-3 : tie.Need-same-length-3
-same-length-3 c = search (c .before .before .before .before .before .before .before .starts .given, needs)
+same-length-3 c = c .before .before .before .before .before .before .before .starts .given
 
 -- src/listing.rt:43:1
 same-length-4 : tie.Need-same-length-4
-same-length-4 c = search (c .before .before .before .ends .given, needs)
+same-length-4 c = c .before .before .before .ends .given
 
 -- src/listing.rt:43:1
 same-length-5 : tie.Need-same-length-5
-same-length-5 c = search (c .before .before .before .before .before .before .before .before .before .before .before .before .before .before .counts .given, needs)
+same-length-5 c = c .before .before .before .before .before .before .before .before .before .before .before .before .before .before .counts .given
 
 -- src/listing.rt:43:1
 same-length-6 : tie.Need-same-length-6
-same-length-6 c = search (c .before .before .before .before .before .before .before .before .before .before .before .before .times .given, needs)
+same-length-6 c = c .before .before .before .before .before .before .before .before .before .before .before .before .times .given
 
 -- src/listing.rt:43:1
 same-length-7 : tie.Need-same-length-7
-same-length-7 c = search (c .before .before .before .before .before .before .before .before .before .before .before .rates .given, needs)
+same-length-7 c = c .before .before .before .before .before .before .before .before .before .before .before .rates .given
 
 -- src/listing.rt:43:1
 returns : tie.Need-returns
