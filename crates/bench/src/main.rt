@@ -32,7 +32,7 @@ fn main() {
         b"time-of-100",
         b"count-at-100",
     );
-    bench_stamps::timed::bench(
+    bench_times::bench(
         timed,
         &messages,
         &counts[0..100],

@@ -11,14 +11,12 @@ use bench_report::scaled;
 use rules::PrintAnswer;
 use rules::ReadAnswer;
 
-pub mod timed;
-
 const TEXTS: usize = 256;
 
 // The bytes of a stamp `1/ddddd:dd:ddd`, and of a message that is a stamp and its trailer.
-const TEXT: usize = 14;
+pub const TEXT: usize = 14;
 
-const MESSAGE: usize = 16;
+pub const MESSAGE: usize = 16;
 
 pub fn bench(timed: bool, messages: &[u8]) {
     let asked = often(timed, 5_000_000, 1_000);

@@ -1,12 +1,12 @@
 // A stamp, and a message, to its count and time under one partition.
 ghost use Prim.Native.Nat.{_≤_, _<_};
-use crate::MESSAGE;
-use crate::TEXT;
 use bench_report::LAST;
 use bench_report::layout;
 use bench_report::line;
 use bench_report::mixed;
 use bench_report::next;
+use bench_stamps::MESSAGE;
+use bench_stamps::TEXT;
 use rules::StampAnswer;
 use stamp_time::time_of_message;
 use stamp_time::time_of_stamp;

@@ -1,7 +1,7 @@
 use borrow.Author.Needs.{needs}
 use Prim.Native.Nat.{_-_, _<_}
-use Rattle.bench_stamps.proofs.timed.marks.Statement.{statement}
-use Rattle.bench_stamps.proofs.timed.marks.Tie as tie
+use Rattle.bench_times.proofs.marks.Statement.{statement}
+use Rattle.bench_times.proofs.marks.Tie as tie
 
 abbrev Inv-loop : tie.InvT-loop
 Inv-loop messages size counts times rates asked sum₀ x₀ k₀ sum x k = (x < 2147483648) × (sum < 1000000007)
