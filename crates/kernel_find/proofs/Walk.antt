@@ -1,7 +1,7 @@
 -- The loop over the lines: what is kept of the lines before a place has, with the lines from there on, the answer of the whole.
 use Prim.Native.Nat.{ℕ, zero, suc, _+_, _≤_, _<_}
 use mathlib.Core.Path.{_≡_, refl, sym, ap, subst, _∙_}
-use mathlib.Core.Bool.{Bool, true, false, cond, _&&_}
+use mathlib.Core.Bool.{Bool, true, false, cond, and-true}
 use mathlib.Core.List.{List, [], _∷_, _++_, append-nil}
 use lib.Dec.{eqb, ltb, leb}
 use lib.ListN.{length, drop, getD, set, replicate, length-append, length-set}
@@ -156,10 +156,6 @@ module _ (s : List ℕ) (from : ℕ) (digits slots : List ℕ) (at : ℕ) (stage
           within = record { place = w .before };
           behind = w .behind;
         }
-      where
-        and-true : (b : Bool) → (b && true) ≡ b
-        and-true true = refl
-        and-true false = refl
 
 -- no line yet
 abbrev zeros : ℕ → List ℕ

@@ -1,7 +1,7 @@
 -- Copying a list to the front of another, and whether seven lists have room.
 use Prim.Native.Nat.{ℕ, _+_, _≤_, _<_}
-use mathlib.Core.Path.{_≡_, refl, sym, ap, _∙_}
-use mathlib.Core.Bool.{Bool, true, false, _&&_, true≢false}
+use mathlib.Core.Path.{_≡_, sym, ap, _∙_}
+use mathlib.Core.Bool.{Bool, true, false, true≢false, and-true}
 use mathlib.Core.List.{List, [], _∷_}
 use lib.Dec.{leb}
 use lib.IntN.{ℤ, pos}
@@ -54,11 +54,7 @@ module _ (n0 m0 n1 m1 n2 m2 n3 m3 n4 m4 n5 m5 n6 m6 : ℕ) where
 
   pub fit-6 : n0 ≤ m0 → n1 ≤ m1 → n2 ≤ m2 → n3 ≤ m3 → n4 ≤ m4 → n5 ≤ m5 → leb n6 m6 ≡ allOf (leb n0 m0 ∷ leb n1 m1 ∷ leb n2 m2 ∷ leb n3 m3 ∷ leb n4 m4 ∷ leb n5 m5 ∷ leb n6 m6 ∷ [])
   unfolding allOf
-  fit-6 h0 h1 h2 h3 h4 h5 = rw (le-leb n0 m0 h0, le-leb n1 m1 h1, le-leb n2 m2 h2, le-leb n3 m3 h3, le-leb n4 m4 h4, le-leb n5 m5 h5) (and-true (leb n6 m6))
-    where
-      and-true : (b : Bool) → b ≡ (b && true)
-      and-true true = refl
-      and-true false = refl
+  fit-6 h0 h1 h2 h3 h4 h5 = rw (le-leb n0 m0 h0, le-leb n1 m1 h1, le-leb n2 m2 h2, le-leb n3 m3 h3, le-leb n4 m4 h4, le-leb n5 m5 h5) (sym (and-true (leb n6 m6)))
 
   pub all-fit : (b : Bool) → b ≡ allOf (leb n0 m0 ∷ leb n1 m1 ∷ leb n2 m2 ∷ leb n3 m3 ∷ leb n4 m4 ∷ leb n5 m5 ∷ leb n6 m6 ∷ []) → b ≡ true → Rooms n0 m0 n1 m1 n2 m2 n3 m3 n4 m4 n5 m5 n6 m6
   all-fit b e n =

@@ -1,7 +1,7 @@
 -- What one row must meet, test by test.
 use Prim.Native.Nat.{ℕ, _≤_, _<_}
 use mathlib.Core.Path.{_≡_, refl, sym, _∙_}
-use mathlib.Core.Bool.{Bool, true, false, not, _&&_}
+use mathlib.Core.Bool.{Bool, true, false, not, _&&_, and-true}
 use mathlib.Core.Option.{Option, some}
 use lib.Dec.{leb}
 use lib.Signed.{leZ, ltZ}
@@ -18,10 +18,6 @@ use Rattle.rules.specs.Segments.{rowOk, follows, lineOk, segmentOk}
 use Rattle.segments.specs.declared.row.Previous.{Previous}
 use Rattle.segments.specs.declared.row.Previous.the-variants as Before
 use Rattle.segments.specs.Rows.{previous}
-
-and-true : (b : Bool) → (b && true) ≡ b
-and-true true = refl
-and-true false = refl
 
 and-false : (b : Bool) → (b && false) ≡ false
 and-false true = refl
