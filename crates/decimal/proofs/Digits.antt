@@ -2,25 +2,15 @@
 use Prim.Native.Nat.{ℕ, zero, suc, _+_, _-_, _/_, _%_, _^_, _≤_, _<_}
 use mathlib.Core.Path.{_≡_, refl, _∙_}
 use mathlib.Core.List.{List, [], _∷_}
-use lib.Dec.{leb, lit<}
-use lib.ListN.{length, set, length-append}
+use lib.Dec.{lit<}
+use lib.ListN.{length, set}
 use lib.Pow.{pow-add}
-use native.Mathlib.Nat.{pow-le-pow-right, one-le-pow}
-use native.Mathlib.Numerals.{add-one}
+use native.Mathlib.Nat.{one-le-pow}
 use native.Mathlib.Omega.{arith}
-use borrow.Author.Tests.{leb-true, leb-false}
-use Rattle.base.proofs.Tests.{by-test}
 use Rattle.rules.specs.Print.{digitsUpTo, digitCount, lastDigits}
-use Rattle.roundtrip.proofs.Digits.{digits-enough, digits-needed}
+use Rattle.roundtrip.proofs.Digits.{digits-enough, digits-needed, digits-below, pow-order, last-length}
 use Rattle.decimal.specs.Writing.{Room, Written}
 use Rattle.decimal.proofs.RightToLeft.{Left, left-all, left-room, left-next, left-nothing, byte-written}
-
--- powers of ten grow with the exponent
-pow-order : (j k : ℕ) → 10 ^ j < 10 ^ k → j < k
-pow-order j k h = by-test (leb k j) (λ t. absurd (never (pow-le-pow-right {n = 10} (lit< tt) {i = k} {j = j} (leb-true k j t)))) (λ f. leb-false k j f)
-  where
-    never : 10 ^ k ≤ 10 ^ j → ⊥
-    never l = omega arith
 
 pub digit-count-is : (k x : ℕ) → 10 ^ k ≤ x → x < 10 ^ (k + 1) → digitCount x ≡ k + 1
 digit-count-is k x h l =
@@ -43,20 +33,9 @@ digit-count-four x h =
     let sum : d + 3 + 1 ≡ d + 4 = omega arith in
     digit-count-is (d + 3) x (omega (arith, pow-add 10 d 3, digits-needed (x / 10_000) (omega arith))) (rw sum (omega (arith, pow-add 10 d 4, digits-enough (x / 10_000)))) ∙ sum
 
--- a number below a power of ten
-pub digit-count-below : (k x : ℕ) → 0 < k → x < 10 ^ k → digitCount x ≤ k
-digit-count-below k zero p h = rw digit-count-zero (omega arith)
-digit-count-below k (suc x) p h =
-    let l : digitCount (suc x) < k + 1 = pow-order (digitCount (suc x)) (k + 1) (omega (arith, pow-add 10 k 1, digits-needed (suc x) (omega arith))) in omega arith
-
 -- a 64-bit number has at most 20 digits
 pub digit-count-word : (x : ℕ) → x < 2 ^ 64 → digitCount x ≤ 20
-digit-count-word x h = digit-count-below 20 x (omega arith) (omega arith)
-
-pub last-digits-length : (w x : ℕ) → length (lastDigits w x) ≡ w
-unfolding lastDigits
-last-digits-length zero x = refl
-last-digits-length (suc w) x = rw (length-append, last-digits-length w (x / 10), add-one)
+digit-count-word x h = digits-below 20 x (omega arith) (omega arith)
 
 -- the digits of x from index start to index at are left to write
 module _ (s : List ℕ) (x start end at : ℕ) (entry buffer : List ℕ) (l : Left s (lastDigits (at - start) x) end at entry buffer) where
@@ -72,11 +51,11 @@ module _ (s : List ℕ) (x start end at : ℕ) (entry buffer : List ℕ) (l : Le
   digits-done h = let w : at - start ≡ 0 = omega arith in left-nothing s end at entry buffer (rw w at l)
 
 pub digits-room : (w x end : ℕ) (b : List ℕ) → w ≤ end → end ≤ length b → Room (lastDigits w x) end b
-digits-room w x end b h k = record { before = omega (arith, last-digits-length w x); within = k }
+digits-room w x end b h k = record { before = omega (arith, last-length w x); within = k }
 
 module _ (w x end : ℕ) (b : List ℕ) (r : Room (lastDigits w x) end b) where
   pub room-width : w ≤ end
-  room-width = omega (arith, last-digits-length w x)
+  room-width = omega (arith, last-length w x)
 
   pub digits-all : Left (lastDigits w x) (lastDigits (end - (end - w)) x) end end b b
   digits-all = let e : end - (end - w) ≡ w = omega (arith, room-width) in rw e (left-all (lastDigits w x) end b r)

@@ -10,10 +10,10 @@ use mir.Val.{SFits, toZ, ofZ}
 use mir.Facts.{toZ-ofZ}
 use native.Mathlib.Omega.{arith}
 use Rattle.rules.specs.Print.{digitCount, lastDigits, padded}
-use Rattle.roundtrip.proofs.Digits.{digits-some}
+use Rattle.roundtrip.proofs.Digits.{digits-some, last-length}
 use Rattle.decimal.specs.Writing.{Room, Written}
 use Rattle.decimal.proofs.RightToLeft.{put-front, written-length}
-use Rattle.decimal.proofs.Digits.{digits-room, last-digits-length}
+use Rattle.decimal.proofs.Digits.{digits-room}
 use Rattle.kernel_rules.specs.Names.{clockDigits}
 use Rattle.kernel_names.specs.Digits.{longestDigits}
 
@@ -28,14 +28,14 @@ pub front-digits : (clock : ℤ) (x w start : ℕ) (entry exit : List ℕ) → S
 unfolding clockDigits padded
 front-digits clock x w start entry exit f ex ew d =
     ap (take w) (d .bytes ∙ rw zero (put-front (lastDigits w x) entry))
-    ∙ take-at (lastDigits w x) (drop (length (lastDigits w x)) entry) w (last-digits-length w x)
+    ∙ take-at (lastDigits w x) (drop (length (lastDigits w x)) entry) w (last-length w x)
     ∙ rw (← number, width)
   where
     number : x ≡ natAbs clock
     number = ex ∙ ap natAbs (toZ-ofZ f)
 
     zero : start ≡ 0
-    zero = omega (arith, last-digits-length w x, d .ends)
+    zero = omega (arith, last-length w x, d .ends)
 
     width : max 1 (digitCount x) ≡ w
     width = omega (arith, digits-some x)

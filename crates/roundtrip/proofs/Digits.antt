@@ -3,10 +3,11 @@ use Prim.Native.Nat.{ℕ, zero, suc, _+_, _-_, _*_, _/_, _%_, _^_, max, _≤_, _
 use mathlib.Core.Path.{_≡_, refl}
 use mathlib.Core.Bool.{true}
 use mathlib.Core.List.{List, [], _∷_, _++_}
-use lib.Dec.{ltb}
+use lib.Dec.{leb, ltb, lit<}
 use lib.ListN.{length, length-append}
 use lib.Arith.{mod-mul}
-use borrow.Author.Tests.{lt-ltb, le-ltb, le-leb, ltb-true, ltb-false}
+use lib.Pow.{pow-add}
+use borrow.Author.Tests.{lt-ltb, le-ltb, le-leb, leb-true, leb-false, ltb-true, ltb-false}
 use native.Mathlib.Nat.{pow-suc, pow-le-pow-right, mod-eq-of-lt, one-le-pow, le-max-right, lt-of-lt-of-le}
 use native.Mathlib.Numerals.{add-one}
 use native.Mathlib.Omega.{arith}
@@ -56,11 +57,29 @@ pub digits-needed : (x : ℕ) → 1 ≤ x → 10 ^ digitCount x ≤ x * 10
 unfolding digitCount
 digits-needed x h = up-to-needed x x h
 
+-- powers of ten grow with the exponent
+pub pow-order : (j k : ℕ) → 10 ^ j < 10 ^ k → j < k
+pow-order j k h = by-test (leb k j) (λ t. absurd (never (pow-le-pow-right {n = 10} (lit< tt) {i = k} {j = j} (leb-true k j t)))) (λ f. leb-false k j f)
+  where
+    never : 10 ^ k ≤ 10 ^ j → ⊥
+    never l = omega arith
+
+-- a number below a power of ten
+pub digits-below : (k x : ℕ) → 1 ≤ k → x < 10 ^ k → digitCount x ≤ k
+unfolding digitCount digitsUpTo
+digits-below k zero p h = p
+digits-below k (suc x) p h =
+    let l : digitCount (suc x) < k + 1 = pow-order (digitCount (suc x)) (k + 1) (omega (arith, pow-add 10 k 1, digits-needed (suc x) (omega arith))) in omega arith
+
 -- a number has a digit
 pub digits-some : (x : ℕ) → 1 ≤ digitCount x
 unfolding digitCount digitsUpTo
 digits-some zero = omega arith
 digits-some (suc x) = by-test (ltb (suc x) 10) (λ t. rw (t, digitsUpTo) (omega arith)) (λ f. rw (f, digitsUpTo) (omega arith))
+
+-- a larger number has no fewer
+pub digits-grow : (x y : ℕ) → x ≤ y → digitCount x ≤ digitCount y
+digits-grow x y h = digits-below (digitCount y) x (digits-some y) (omega (arith, digits-enough y))
 
 -- the digits that bytes stand for
 unfoldable pub digitsOf : List ℕ → List ℕ
@@ -88,7 +107,7 @@ last-whole : (w x : ℕ) → x < 10 ^ w → valueOf (digitsOf (lastDigits w x)) 
 unfolding valueOf
 last-whole w x h = rw (last-value 0 w x, mod-eq-of-lt h) (omega arith)
 
-last-length : (w x : ℕ) → length (lastDigits w x) ≡ w
+pub last-length : (w x : ℕ) → length (lastDigits w x) ≡ w
 unfolding lastDigits
 last-length zero x = refl
 last-length (suc w) x = rw (length-append, last-length w (x / 10), add-one)

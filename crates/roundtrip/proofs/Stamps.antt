@@ -4,16 +4,15 @@ use mathlib.Core.Path.{_≡_}
 use mathlib.Core.Bool.{true, false}
 use mathlib.Core.List.{List, _∷_, _++_}
 use mathlib.Core.Option.{some}
-use lib.Dec.{leb, eqb}
+use lib.Dec.{eqb}
 use lib.ListN.{length, getD, length-append, List·getD-append}
 use lib.Seq.{take-append-seam, drop-append-add, getD-append-seam}
-use borrow.Author.Tests.{le-leb, leb-true, leb-false, ne-eqb}
-use native.Mathlib.Nat.{pow-le-pow-right}
+use borrow.Author.Tests.{le-leb, leb-true, ne-eqb}
 use native.Mathlib.Omega.{arith}
 use Rattle.base.specs.Scans.{all}
-use Rattle.base.proofs.Tests.{by-test, and-both, and-first}
+use Rattle.base.proofs.Tests.{and-both, and-first}
 use Rattle.base.proofs.Scans.{first-is}
-use Rattle.rules.specs.Limits.{mostPartitions, longestText}
+use Rattle.rules.specs.Limits.{longestText}
 use Rattle.rules.specs.Answer.{answer, unless, andThen, reading}
 use Rattle.rules.specs.declared.Layout.{Layout}
 use Rattle.rules.specs.Layout.{layoutOk, moduliOf, offsetsOf, productOf}
@@ -22,10 +21,10 @@ use Rattle.rules.specs.Facts.{PartitionsFacts}
 use Rattle.rules.proofs.Accepted.{partitions-facts}
 use Rattle.rules.specs.Text.{isDigit, bytesCount}
 use Rattle.rules.specs.Stamp.{slashIn, frontOk, frontNumber, holds, encodedIn, encodeNamed, named, parsedAt, parseStamp, encode, readStamp}
-use Rattle.rules.specs.Print.{digitCount, padded, partitionOf, decodedIn, countPrint, stampPrint}
+use Rattle.rules.specs.Print.{padded, partitionOf, decodedIn, countPrint, stampPrint}
 use Rattle.roundtrip.specs.RoundTrip.{TenSlots, StampReadsBack, StampPrintsShort, longestStampPrint}
 use Rattle.base.proofs.Lists.{all-getD}
-use Rattle.roundtrip.proofs.Digits.{Prints, padded-prints, padded-length, digits-needed}
+use Rattle.roundtrip.proofs.Digits.{Prints, padded-prints, padded-length, digits-below}
 use Rattle.roundtrip.proofs.Fields.{one-field, digits-allowed}
 use Rattle.roundtrip.proofs.Split.{present}
 use Rattle.roundtrip.proofs.Counts.{Readable, readable}
@@ -67,12 +66,6 @@ encode-named p i c b h =
     let e : i + 1 - 1 ≡ i = omega arith in
     rw (and-both (le-leb 1 (i + 1) (omega arith)) (le-leb (i + 1) (partitionsIn p) (omega arith)), e, h)
 
-few-digits : (x : ℕ) → 1 ≤ x → x ≤ mostPartitions → digitCount x ≤ 4
-few-digits x n h =
-    by-test (leb (digitCount x) 4)
-    (λ t. leb-true (digitCount x) 4 t)
-    (λ f. absurd (omega (arith, digits-needed x n, pow-le-pow-right {n = 10} (omega arith) (leb-false (digitCount x) 4 f))))
-
 module _ (l : Layout) (p : Partitions) (t : TenSlots l) (ok : layoutOk l ≡ true) (good : partitionsOk (productOf l) p ≡ true) (e : ℕ) (h : e ≤ totalOf p) where
   abbrev facts : PartitionsFacts (productOf l) p
   facts = partitions-facts (productOf l) p good
@@ -92,7 +85,7 @@ module _ (l : Layout) (p : Partitions) (t : TenSlots l) (ok : layoutOk l ≡ tru
   pub stamp-short : length (stampPrint l p e) ≤ longestStampPrint
   unfolding stampPrint
   stamp-short =
-      let number = few-digits (place + 1) (omega arith) (omega (arith, there .below, facts .few)) in
+      let number = digits-below 4 (place + 1) (omega arith) (omega (arith, there .below, facts .few)) in
       rw (length-append, padded-length) (omega (arith, text .short, number))
 
   pub stamp-back : readStamp l p (stampPrint l p e) ≡ answer (reading e)

@@ -20,7 +20,8 @@ use Rattle.rules.specs.Answer.{answer, refused, stampAnswer}
 use Rattle.rules.specs.Examples.{bytes}
 use Rattle.rules.specs.Print.{digitCount, lastDigits}
 use Rattle.decimal.specs.Writing.{Room, Written}
-use Rattle.decimal.proofs.Digits.{digit-count-below, digit-count-word, last-digits-length, digits-room}
+use Rattle.roundtrip.proofs.Digits.{digits-below, last-length}
+use Rattle.decimal.proofs.Digits.{digit-count-word, digits-room}
 use Rattle.decimal.proofs.LeftToRight.{nothing-written, written-same-length, written-then, byte-then}
 use Rattle.lines.specs.Lines.{lineEnd}
 use Rattle.stamp_lines.specs.Output.{decimalOf, timeBytes, stampBytes, longestNumber, longestAnswer}
@@ -44,7 +45,7 @@ pub number-written : (x after at w start : ℕ) {entry out : List ℕ} → Writt
     → Written (decimalOf x ++ (after ∷ [])) (at + w + 1) at entry (set out (at + w) after)
 unfolding decimalOf
 number-written x after at w start {entry} {out} d e h =
-    let from : start ≡ at = omega (arith, last-digits-length w x, d .ends) in
+    let from : start ≡ at = omega (arith, last-length w x, d .ends) in
     rw (← e) (byte-then after (rw from at d) (omega arith))
 
 pub number-room : (x at : ℕ) (b : List ℕ) → Fits w64 x → at + longestAnswer ≤ length b → at + digitCount x < length b
@@ -53,7 +54,7 @@ number-room x at b f h = omega (arith, digit-count-word x (f .fits))
 -- a time, by its ordinal
 module _ (o at place : ℕ) {entry out : List ℕ} (below : o < 2 ^ 63) (w : Written (45 ∷ []) place at entry out) where
   minus-digits : digitCount (2 ^ 63 - o) ≤ 19
-  minus-digits = digit-count-below 19 (2 ^ 63 - o) (omega arith) (omega arith)
+  minus-digits = digits-below 19 (2 ^ 63 - o) (omega arith) (omega arith)
 
   pub minus-room : at + longestNumber < length entry → place + digitCount (2 ^ 63 - o) < length out
   minus-room h = omega (arith, minus-digits, w .ends, written-same-length w (omega (arith, w .ends)))
