@@ -224,6 +224,11 @@ module _ (f : ℕ → ℕ) where
   unfolding sumBelow
   sum-next n = rw add-one
 
+  pub sum-first : (n : ℕ) → sumBelow f (suc n) ≡ f 0 + sumBelow (λ i. f (suc i)) n
+  unfolding sumBelow
+  sum-first zero = omega arith
+  sum-first (suc n) = rw (sum-first n) (omega arith)
+
   pub sum-up : (m n : ℕ) → m ≤ n → sumBelow f m ≤ sumBelow f n
   unfolding sumBelow
   sum-up m zero h = let e : m ≡ 0 = omega arith in rw e (le-refl 0)

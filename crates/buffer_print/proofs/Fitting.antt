@@ -10,7 +10,6 @@ use Rattle.rules.specs.Answer.{numbered, unless}
 use Rattle.rules.specs.Print.{fieldsPrint, fitting, lengthPrinted, bufferAfter}
 use Rattle.decimal.specs.Writing.{Room, Written}
 use Rattle.decimal.proofs.RightToLeft.{put-front}
-use Rattle.field_print.specs.Facts.{FieldsLength}
 use Rattle.buffer_print.specs.Printed.{Printed}
 
 module _ (s : List ℕ) (n : ℕ) (long : n ≡ length s) (room : ℕ) where
@@ -31,13 +30,13 @@ module _ (s : List ℕ) (n : ℕ) (long : n ≡ length s) (room : ℕ) where
       record { answers = rw short; bytes = rw short }
 
 -- the fields alone
-module _ (ms os : List ℕ) (c n : ℕ) (w : FieldsLength c ms os n) (d : ℕ) where
-  pub fields-room : (end : ℕ) (b : List ℕ) → n ≤ end → end ≤ length b → Room (fieldsPrint d c ms os) end b
-  fields-room end b h k = record { before = omega (arith, w .any d); within = k }
+module _ (ms os : List ℕ) (d c n : ℕ) (long : n ≡ length (fieldsPrint d c ms os)) where
+  pub fields-room : (b : List ℕ) → n ≤ length b → Room (fieldsPrint d c ms os) n b
+  fields-room b h = record { before = omega arith; within = h }
 
   pub fields-fit : (start room : ℕ) (entry exit : List ℕ) → n ≤ room → Written (fieldsPrint d c ms os) n start entry exit
       → Printed (fitting room (fieldsPrint d c ms os)) (Prints.Length n) entry exit
-  fields-fit start room = print-fits (fieldsPrint d c ms os) n (w .any d) room start
+  fields-fit start room = print-fits (fieldsPrint d c ms os) n long room start
 
   pub fields-short : (room : ℕ) (entry : List ℕ) → room < n → Printed (fitting room (fieldsPrint d c ms os)) (Prints.Refused (numbered 16)) entry entry
-  fields-short room = print-short (fieldsPrint d c ms os) n (w .any d) room
+  fields-short room = print-short (fieldsPrint d c ms os) n long room

@@ -10,7 +10,6 @@ use Rattle.rules.specs.Print.{digitCount, lastDigits, padded, fieldsPrint, fitt
 use Rattle.decimal.specs.Writing.{Room, Written}
 use Rattle.roundtrip.proofs.Digits.{digits-some, padded-length}
 use Rattle.decimal.proofs.RightToLeft.{written-append}
-use Rattle.field_print.specs.Facts.{FieldsLength}
 use Rattle.buffer_print.specs.Printed.{Printed}
 use Rattle.buffer_print.proofs.Fitting.{print-fits, print-short}
 
@@ -34,18 +33,18 @@ module _ (number digits : ℕ) (e : digits ≡ digitCount number) where
   slash-room end b r = record { before = omega (arith, length-append (padded 1 number) (47 ∷ []), r .before); within = r .within }
 
   -- in front of the fields of a count
-  module _ (ms os : List ℕ) (c n : ℕ) (w : FieldsLength c ms os n) (d : ℕ) where
+  module _ (ms os : List ℕ) (d c n : ℕ) (long : n ≡ length (fieldsPrint d c ms os)) where
     numbered-length : digits + 1 + n ≡ length (padded 1 number ++ (47 ∷ fieldsPrint d c ms os))
-    numbered-length = rw (length-append, number-length, w .any d) (omega arith)
+    numbered-length = rw (length-append, number-length, long) (omega arith)
 
     pub numbered-room : (b : List ℕ) → digits + 1 + n ≤ length b → Room (fieldsPrint d c ms os) (digits + 1 + n) b
-    numbered-room b h = record { before = omega (arith, w .any d); within = h }
+    numbered-room b h = record { before = omega (arith, long); within = h }
 
     pub rest-room : (at : ℕ) (b b1 : List ℕ) → digits + 1 + n ≤ length b → Written (fieldsPrint d c ms os) (digits + 1 + n) at b b1 → length b1 ≡ length b
         → Room (padded 1 number ++ (47 ∷ [])) at b1
     rest-room at b b1 h v l =
         record {
-          before = omega (arith, length-append (padded 1 number) (47 ∷ []), number-length, v .ends, w .any d);
+          before = omega (arith, length-append (padded 1 number) (47 ∷ []), number-length, v .ends, long);
           within = omega (arith, v .ends);
         }
 

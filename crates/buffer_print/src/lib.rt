@@ -3,6 +3,7 @@ ghost use Prim.Native.Nat.{_+_, _<_};
 ghost use mathlib.Core.Path.{_≡_};
 ghost use mathlib.Core.List.{[], _∷_, _++_};
 ghost use lib.ListN.{length};
+ghost use Rattle.base.specs.Scans.{product};
 ghost use Rattle.rules.specs.Limits.{mostPartitions};
 ghost use Rattle.rules.specs.Print.{digitCount, fitting, padded, fieldsPrint};
 ghost use Rattle.decimal.specs.Writing.{Room, Written};
@@ -20,10 +21,11 @@ pub fn print_fields(
     offsets: &[u64],
     buffer: &mut [u8],
 ) -> PrintAnswer
-    requires { ⌜ FieldsFacts count (now moduli) (now offsets) ⌝ }
+    requires { ⌜ FieldsFacts (now moduli) (now offsets) ⌝ }
+    requires { ⌜ count < product (now moduli) ⌝ }
     ensures { λ r. ⌜ Printed (fitting (length (now (buffer .entry))) (fieldsPrint delimiter count (now (moduli .entry)) (now (offsets .entry)))) r (now (buffer .entry)) (now (buffer .exit)) ⌝ }
 {
-    let count_bytes = fields_length(count, moduli, offsets);
+    let count_bytes = fields_length(moduli, offsets);
     if buffer.len() < count_bytes {
         return PrintAnswer::Refused(refusals::BUFFER_TOO_SHORT);
     }
@@ -41,12 +43,13 @@ pub fn print_numbered(
     buffer: &mut [u8],
 ) -> PrintAnswer
     requires { ⌜ partition < mostPartitions ⌝ }
-    requires { ⌜ FieldsFacts count (now moduli) (now offsets) ⌝ }
+    requires { ⌜ FieldsFacts (now moduli) (now offsets) ⌝ }
+    requires { ⌜ count < product (now moduli) ⌝ }
     ensures { λ r. ⌜ Printed (fitting (length (now (buffer .entry))) (padded 1 (partition + 1) ++ (47 ∷ fieldsPrint delimiter count (now (moduli .entry)) (now (offsets .entry))))) r (now (buffer .entry)) (now (buffer .exit)) ⌝ }
 {
     let number = partition as u64 + 1;
     let digits = decimal::digit_count(number);
-    let stamp_bytes = digits + 1 + fields_length(count, moduli, offsets);
+    let stamp_bytes = digits + 1 + fields_length(moduli, offsets);
     if buffer.len() < stamp_bytes {
         return PrintAnswer::Refused(refusals::BUFFER_TOO_SHORT);
     }

@@ -3,18 +3,18 @@ use Prim.Native.Nat.{ℕ, zero, suc, _+_, _*_, _/_, _%_, _≤_, _<_}
 use mathlib.Core.Path.{_≡_}
 use mathlib.Core.List.{List, [], _∷_, _++_, append-assoc}
 use lib.Arith.{mod-mul, digits-div, digits-mod}
-use lib.ListN.{length, getD, take}
+use lib.ListN.{length, take}
 use native.Mathlib.Nat.{mul-one, mul-comm, mul-assoc, mul-pos, zero-mul, mod-lt, div-div-eq-div-mul}
 use native.Mathlib.Omega.{arith}
 use Rattle.base.specs.Scans.{product}
 use Rattle.rules.specs.Print.{fieldPrint, fieldsPrint}
 use Rattle.roundtrip.proofs.Fields.{print-last, print-more}
 
-product-one : (m : ℕ) → product (m ∷ []) ≡ m
+pub product-one : (m : ℕ) → product (m ∷ []) ≡ m
 unfolding product
 product-one m = mul-one m
 
-product-snoc : (ms : List ℕ) (m : ℕ) → product (ms ++ (m ∷ [])) ≡ product ms * m
+pub product-snoc : (ms : List ℕ) (m : ℕ) → product (ms ++ (m ∷ [])) ≡ product ms * m
 unfolding product
 product-snoc [] m = rw (mul-comm 1 m)
 product-snoc (k ∷ ms) m = rw (product-snoc ms m, mul-assoc)
@@ -29,13 +29,6 @@ factor-second a b h = factor-first b a (rw mul-comm at h)
 later-positive : (m : ℕ) (ms : List ℕ) → 0 < product (m ∷ ms) → 0 < product ms
 unfolding product
 later-positive m ms h = factor-second m (product ms) h
-
--- the factors of a product that is not 0
-pub modulus-positive : (ms : List ℕ) (i : ℕ) → i < length ms → 0 < product ms → 1 ≤ getD ms i 0
-unfolding product
-modulus-positive [] i l h = absurd (omega arith)
-modulus-positive (m ∷ ms) zero l h = factor-first m (product ms) h
-modulus-positive (m ∷ ms) (suc i) l h = modulus-positive ms i (omega arith) (later-positive m ms h)
 
 pub front-positive : (ms : List ℕ) (i : ℕ) → 0 < product ms → 0 < product (take i ms)
 unfolding product

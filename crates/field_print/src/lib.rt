@@ -1,28 +1,26 @@
-// The fields of a count, from the last to the first: how many bytes they print to, and writing them.
-ghost use Prim.Native.Nat.{_≤_, max};
+// The fields of a count: how many bytes they print to, and writing them, from the last to the first.
+ghost use Prim.Native.Nat.{_≤_, _<_};
 ghost use mathlib.Core.Path.{_≡_};
 ghost use mathlib.Core.List.{_∷_};
-ghost use lib.ListN.{length};
+ghost use Rattle.base.specs.Scans.{product};
 ghost use Rattle.rules.specs.Print.{fieldWidth, fieldPrint, fieldsPrint};
+ghost use Rattle.print_order.specs.Order.{fieldsLength};
 ghost use Rattle.decimal.specs.Writing.{Room, Written};
-ghost use Rattle.field_print.specs.Facts.{FieldFacts, FieldsFacts, FieldsLength};
+ghost use Rattle.field_print.specs.Facts.{FieldFacts, FieldsFacts};
 
-// How many bytes the fields of a count print to, whatever the delimiter. A field has at most 20 digits and a delimiter.
-pub fn fields_length(count: u64, moduli: &[u64], offsets: &[u64]) -> usize
-    requires { ⌜ FieldsFacts count (now moduli) (now offsets) ⌝ }
-    ensures { λ r. ⌜ FieldsLength count (now (moduli .entry)) (now (offsets .entry)) r ⌝ }
+// How many bytes the fields of any count print to. A field has at most 20 digits and a delimiter.
+pub fn fields_length(moduli: &[u64], offsets: &[u64]) -> usize
+    requires { ⌜ FieldsFacts (now moduli) (now offsets) ⌝ }
+    ensures { λ r. ⌜ r ≡ fieldsLength (now (moduli .entry)) (now (offsets .entry)) ⌝ }
     ensures { λ r. ⌜ r ≤ 210 ⌝ }
 {
-    let mut rest = count;
-    let mut left = moduli.len();
-    let mut bytes = 0;
-    while 1 < left {
-        left -= 1;
-        let modulus = moduli[left];
-        bytes += 1 + field_length(rest % modulus, modulus, offsets[left]);
-        rest /= modulus;
+    let mut bytes = moduli.len() - 1;
+    let mut i = 0;
+    while i < moduli.len() {
+        bytes += field_width(moduli[i], offsets[i]);
+        i += 1;
     }
-    bytes + field_length(rest, moduli[0], offsets[0])
+    bytes
 }
 
 // Writes the fields of a count so that they end at index end, and answers where they start.
@@ -34,7 +32,8 @@ pub fn write_fields(
     end: usize,
     buffer: &mut [u8],
 ) -> usize
-    requires { ⌜ FieldsFacts count (now moduli) (now offsets) ⌝ }
+    requires { ⌜ FieldsFacts (now moduli) (now offsets) ⌝ }
+    requires { ⌜ count < product (now moduli) ⌝ }
     requires { ⌜ Room (fieldsPrint delimiter count (now moduli) (now offsets)) end (now buffer) ⌝ }
     ensures { λ r. ⌜ Written (fieldsPrint delimiter count (now (moduli .entry)) (now (offsets .entry))) end r (now (buffer .entry)) (now (buffer .exit)) ⌝ }
 {
@@ -66,7 +65,8 @@ fn write_later_field(
     end: usize,
     buffer: &mut [u8],
 ) -> usize
-    requires { ⌜ FieldFacts value modulus offset ⌝ }
+    requires { ⌜ FieldFacts modulus offset ⌝ }
+    requires { ⌜ value < modulus ⌝ }
     requires { ⌜ Room (delimiter ∷ fieldPrint value modulus offset) end (now buffer) ⌝ }
     ensures { λ r. ⌜ Written (delimiter ∷ fieldPrint value modulus offset) end r (now (buffer .entry)) (now (buffer .exit)) ⌝ }
 {
@@ -75,36 +75,20 @@ fn write_later_field(
 }
 
 fn write_field(value: u64, modulus: u64, offset: u64, end: usize, buffer: &mut [u8]) -> usize
-    requires { ⌜ FieldFacts value modulus offset ⌝ }
+    requires { ⌜ FieldFacts modulus offset ⌝ }
+    requires { ⌜ value < modulus ⌝ }
     requires { ⌜ Room (fieldPrint value modulus offset) end (now buffer) ⌝ }
     ensures { λ r. ⌜ Written (fieldPrint value modulus offset) end r (now (buffer .entry)) (now (buffer .exit)) ⌝ }
 {
-    let length = field_length(value, modulus, offset);
-    decimal::write_digits(value + offset, length, end, buffer)
+    let width = field_width(modulus, offset);
+    decimal::write_digits(value + offset, width, end, buffer)
 }
 
-fn field_length(value: u64, modulus: u64, offset: u64) -> usize
-    requires { ⌜ FieldFacts value modulus offset ⌝ }
-    ensures { λ r. ⌜ r ≡ length (fieldPrint value modulus offset) ⌝ }
-    ensures { λ r. ⌜ r ≤ 20 ⌝ }
-{
-    larger(
-        field_width(modulus, offset),
-        decimal::digit_count(value + offset),
-    )
-}
-
-// "zero-padded to as many digits as the number modulus - 1 has"
+// "that of the largest shown number, modulus plus offset less one"
 fn field_width(modulus: u64, offset: u64) -> usize
-    requires { ⌜ 1 ≤ modulus ⌝ }
+    requires { ⌜ FieldFacts modulus offset ⌝ }
     ensures { λ r. ⌜ r ≡ fieldWidth modulus offset ⌝ }
     ensures { λ r. ⌜ r ≤ 20 ⌝ }
 {
-    decimal::digit_count(modulus - 1)
-}
-
-fn larger(a: usize, b: usize) -> usize
-    ensures { λ r. ⌜ r ≡ max a b ⌝ }
-{
-    if a < b { b } else { a }
+    decimal::digit_count(modulus + offset - 1)
 }

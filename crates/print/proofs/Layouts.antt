@@ -5,6 +5,7 @@ use mathlib.Core.List.{List, map}
 use lib.ListN.{length, take}
 use lib.Seq.{length-take-le}
 use native.Mathlib.Omega.{arith}
+use Rattle.base.specs.Scans.{product}
 use Rattle.rules.specs.Facts.{LayoutFacts, PartitionsFacts}
 use Rattle.rules.specs.Limits.{mostFields}
 use Rattle.rules.specs.declared.Layout.{Layout}
@@ -22,18 +23,22 @@ Slots s = length (map (λ (v : ℕ). v) s) ≡ mostFields
 pub slots-count : (l : Layout) → LayoutFacts l → (s : List ℕ) → Slots s → l .n ≡ length (take (l .n) s)
 slots-count l f s slots = sym (length-take-le (l .n) s (slots-within s (l .n) mostFields slots (f .few-fields)))
 
-pub fields-facts : (l : Layout) (c : ℕ) → Slots (l .moduli) → Slots (l .offsets) → LayoutFacts l → c < productOf l → FieldsFacts c (moduliOf l) (offsetsOf l)
+pub fields-facts : (l : Layout) → Slots (l .moduli) → Slots (l .offsets) → LayoutFacts l → FieldsFacts (moduliOf l) (offsetsOf l)
 unfolding productOf
-fields-facts l c m o f h =
+fields-facts l m o f =
     record {
       some = omega (arith, slots-count l f (l .moduli) m);
       few = omega (arith, slots-count l f (l .moduli) m);
       one-length = sym (slots-count l f (l .offsets) o) ∙ slots-count l f (l .moduli) m;
+      moduli = f .moduli;
       offsets = f .offsets;
       small = f .product;
-      count = h;
     }
 
-pub decoded-facts : (l : Layout) (p : Partitions) (e count : ℕ) → Slots (l .moduli) → Slots (l .offsets) → LayoutFacts l → PartitionsFacts (productOf l) p → e ≤ totalOf p
-    → count ≡ decodedIn p e (partitionOf p e) → FieldsFacts count (moduliOf l) (offsetsOf l)
-decoded-facts l p e count m o f g held q = fields-facts l count m o f (count-below (productOf l) p e (f .product) g held count q)
+pub product-below : (l : Layout) (c : ℕ) → c < productOf l → c < product (moduliOf l)
+unfolding productOf
+product-below l c h = h
+
+pub decoded-below : (l : Layout) (p : Partitions) (e count : ℕ) → LayoutFacts l → PartitionsFacts (productOf l) p → e ≤ totalOf p
+    → count ≡ decodedIn p e (partitionOf p e) → count < product (moduliOf l)
+decoded-below l p e count f g held q = product-below l count (count-below (productOf l) p e (f .product) g held count q)

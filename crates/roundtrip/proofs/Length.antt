@@ -1,19 +1,19 @@
 -- How long a print can be. A field has four digits, or more by e where its modulus is at least 1,000 × 10^e less 999;
 -- the moduli's product is then as large, so all fields together have at most twelve digits above four each.
-use Prim.Native.Nat.{ℕ, zero, suc, _+_, _-_, _*_, _/_, _%_, _^_, max, _≤_, _<_}
+use Prim.Native.Nat.{ℕ, zero, suc, _+_, _-_, _*_, _/_, _%_, _^_, _≤_, _<_}
 use mathlib.Core.Path.{_≡_}
 use mathlib.Core.List.{List, [], _∷_}
 use lib.Dec.{leb}
 use lib.ListN.{length, length-append}
 use lib.Pow.{pow-add}
 use borrow.Author.Tests.{leb-true, leb-false}
-use native.Mathlib.Nat.{mul-le-mul, max-eq-left, max-eq-right, pow-le-pow-right, one-le-pow, mod-lt, mul-one}
+use native.Mathlib.Nat.{mul-le-mul, max-eq-left, one-le-pow, mod-lt, mul-one}
 use native.Mathlib.Omega.{arith}
 use Rattle.base.specs.Scans.{product}
 use Rattle.base.proofs.Tests.{by-test}
 use Rattle.rules.specs.Limits.{largestOffset, largestP}
-use Rattle.rules.specs.Print.{digitsUpTo, digitCount, fieldWidth, fieldPrint, fieldsPrint}
-use Rattle.roundtrip.proofs.Digits.{digits-needed, padded-length}
+use Rattle.rules.specs.Print.{digitsUpTo, digitCount, lastDigits, padded, fieldWidth, fieldPrint, fieldsPrint}
+use Rattle.roundtrip.proofs.Digits.{digits-needed, digits-grow, pow-order, last-length}
 use Rattle.roundtrip.proofs.Fields.{print-last, print-more}
 use Rattle.roundtrip.proofs.Split.{FieldsFacts, first-facts, quotient-below}
 
@@ -36,17 +36,17 @@ fits-digits (suc x) m h l =
     (λ t. fits-small w m h (leb-true w 4 t))
     (λ f. fits-large w (suc x) m l (digits-needed (suc x) (omega arith)) (omega (arith, leb-false w 4 f)))
 
-fits-max : (v w m : ℕ) → Fits v m → Fits w m → Fits (max v w) m
-fits-max v w m f g =
-    by-test (leb v w)
-    (λ t. rw (max-eq-right (leb-true v w t)) g)
-    (λ e. let h : w ≤ v = omega (arith, leb-false v w e) in rw (max-eq-left h) f)
+-- a field is as wide as its largest shown number
+pub field-digits : (v m o : ℕ) → v < m → fieldPrint v m o ≡ lastDigits (fieldWidth m o) (v + o)
+unfolding fieldPrint fieldWidth padded
+field-digits v m o h = rw (max-eq-left (digits-grow (v + o) (m + o - 1) (omega arith)))
+
+pub field-length : (v m o : ℕ) → v < m → length (fieldPrint v m o) ≡ fieldWidth m o
+field-length v m o h = rw (field-digits v m o h) (last-length (fieldWidth m o) (v + o))
 
 fits-field : (v m o : ℕ) → v < m → o ≤ largestOffset → Fits (length (fieldPrint v m o)) m
-unfolding fieldPrint fieldWidth
-fits-field v m o h l =
-    let width = fits-digits (m - 1) m (omega arith) (omega arith) in
-    rw padded-length (fits-max _ _ m width (fits-digits (v + o) m (omega arith) (omega arith)))
+unfolding fieldWidth
+fits-field v m o h l = rw (field-length v m o h) (fits-digits (m + o - 1) m (omega arith) (omega arith))
 
 fits-mul : (a b m k : ℕ) → 1 ≤ a → 1 ≤ b → 1_000 * a ≤ m + 999 → 1_000 * b ≤ k + 999 → 1_000 * (a * b) ≤ m * k + 999
 fits-mul zero b m k p q f g = absurd (omega arith)
@@ -84,8 +84,7 @@ room d c m (k ∷ ms) o (q ∷ os) f h =
     }
 
 few-extra : (e : ℕ) → 1_000 * 10 ^ e ≤ largestP + 999 → e ≤ 12
-few-extra e h =
-    by-test (leb e 12) (λ t. leb-true e 12 t) (λ f. absurd (omega (arith, pow-le-pow-right {n = 10} (omega arith) (leb-false e 12 f))))
+few-extra e h = let l : e < 13 = pow-order e 13 (omega arith) in omega arith
 
 pub fields-length : (d c m : ℕ) (ms : List ℕ) (o : ℕ) (os : List ℕ) → FieldsFacts (m ∷ ms) (o ∷ os) → c < product (m ∷ ms)
     → length (fieldsPrint d c (m ∷ ms) (o ∷ os)) ≤ 5 * length (m ∷ ms) + 11

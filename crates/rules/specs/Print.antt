@@ -29,9 +29,9 @@ lastDigits (suc w) x = lastDigits w (x / 10) ++ ((48 + x % 10) ∷ [])
 unfoldable pub padded : ℕ → ℕ → List ℕ
 padded w x = lastDigits (max w (digitCount x)) x
 
--- "zero-padded to as many digits as the number modulus - 1 has (0 has one)", whatever the offset o
+-- Request 2, of a field of modulus m with offset o: "The width must be that of the largest shown number, modulus plus offset less one."
 unfoldable pub fieldWidth : ℕ → ℕ → ℕ
-fieldWidth m o = digitCount (m - 1)
+fieldWidth m o = digitCount (m + o - 1)
 
 -- "each field has its offset added, and is zero-padded"
 unfoldable pub fieldPrint : ℕ → ℕ → ℕ → List ℕ

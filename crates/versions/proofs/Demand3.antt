@@ -39,7 +39,7 @@ module _ (t : Table) (ok : Accepted t) where
   unfolding accepted unless
   through-three a = rw (ok .layout, ok .partitions, ok .segments)
 
-  print-is : (e room : ℕ) → printBy t e room ≡ unless 12 (leb e (totalOf (t .partitions))) (fitting room (stampPrint (t .layout) (t .partitions) e))
+  pub print-is : (e room : ℕ) → printBy t e room ≡ unless 12 (leb e (totalOf (t .partitions))) (fitting room (stampPrint (t .layout) (t .partitions) e))
   unfolding printStamp
   print-is e room = through-two (unless 12 (leb e (totalOf (t .partitions))) (fitting room (stampPrint (t .layout) (t .partitions) e)))
 

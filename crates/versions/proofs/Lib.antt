@@ -21,3 +21,4 @@ pub mod Meets
 pub mod WrittenOut
 pub mod Needed
 pub mod Witness
+pub mod Refusals

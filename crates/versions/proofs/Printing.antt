@@ -1,5 +1,6 @@
 -- Printing an encoded count as a stamp: outside the exception both tables choose one partition, and inside it the newer chooses the next.
 use Prim.Native.Nat.{ℕ, _+_, _≤_, _<_}
+use native.Mathlib.Nat.{le-refl}
 use native.Mathlib.Omega.{arith}
 use mathlib.Core.Path.{_≡_, sym, _∙_}
 use mathlib.Core.Bool.{Bool, false}
@@ -98,6 +99,22 @@ module _ (p q : Partitions) (kept : KeptPartitions p q) (e : ℕ) where
       (λ f. let t = total-asked b (f (lastOf p) (last-in p q kept)) in
       (newer-same t (outside t) ∙ sym (older-last t), rw (older-last t) (last-in p q kept)))
       (first-or (above p e) (partitionsIn p))
+
+  -- in any case the same partition or a later one
+  pub partition-up : e ≤ totalOf p → partitionOf p e ≤ partitionOf q e
+  partition-up b =
+      by-test (eqb e (totalOf p))
+      (λ y. at-total (eqb-true e (totalOf p) y))
+      (λ n. rw (partition-same b (λ t d m. eqb-false e (totalOf p) n t) .0) (le-refl _))
+    where
+      at-total : e ≡ totalOf p → partitionOf p e ≤ partitionOf q e
+      at-total t =
+          by-test (eqb (endOf q (lastOf p)) (endOf p (lastOf p)))
+          (λ y. let d = eqb-true (endOf q (lastOf p)) (endOf p (lastOf p)) y in
+          by-test (ltb (partitionsIn p) (partitionsIn q))
+          (λ m. rw (older-last t, newer-next t d (ltb-true _ _ m)) (omega arith))
+          (λ m. rw (older-last t, newer-last t d (omega (arith, ltb-false))) (le-refl _)))
+          (λ n. rw (older-last t, newer-longer t (eqb-false (endOf q (lastOf p)) (endOf p (lastOf p)) n)) (le-refl _))
 
   decoded-same : (i : ℕ) → i < partitionsIn p → decodedIn q e i ≡ decodedIn p e i
   unfolding decodedIn

@@ -2,10 +2,9 @@
 use Prim.Native.Nat.{ℕ}
 use native.Mathlib.Omega.{arith}
 use mathlib.Core.Path.{_≡_, refl, ap}
-use Rattle.base.proofs.Tests.{not-both}
-use Rattle.rules.specs.Answer.{Answer, answer, refused, numbered}
+use Rattle.rules.specs.Answer.{Answer, answer, refused}
 use Rattle.versions.specs.Versions.{PrintedAnswer, Demand3}
-use Rattle.versions.specs.Needed.{nine, fourteen, ExceptionNeeded, cutA, tableA, Witness, NumbersGiven}
+use Rattle.versions.specs.Needed.{nine, ten, ExceptionNeeded, cutA, tableA, Witness, NumbersGiven}
 use Rattle.versions.proofs.Meets.{passes-accepted, meets-all, demand-3-by-tests}
 use Rattle.versions.proofs.WrittenOut.{written-out}
 
@@ -48,12 +47,12 @@ unfolding written-out returnedBy
 exception-needed =
     record {
       accepted-older = passes-accepted nine refl;
-      accepted-newer = passes-accepted fourteen refl;
-      says = meets-all nine fourteen refl;
+      accepted-newer = passes-accepted ten refl;
+      says = meets-all nine ten refl;
       older-into-four = refl;
       newer-into-four = refl;
-      not-the-same = λ h. let e : _≡_ {A = ℕ} 3 4 = ap returnedBy (h .same _ refl) in omega arith;
+      not-the-same = λ h. let e : _≡_ {A = ℕ} 4 3 = ap returnedBy (h .same _ refl) in omega arith;
       older-into-three = refl;
       newer-into-three = refl;
-      not-refused-12 = λ h. not-both (h .refuses _ (numbered 16) refl refl) refl;
+      not-answered = λ h. let e : _≡_ {A = ℕ} 0 3 = ap returnedBy (h .same _ refl) in omega arith;
     }

@@ -3,17 +3,21 @@
 use Prim.Native.Nat.{ℕ}
 use Prim.Native.String.{String}
 use mathlib.Core.Path.{_≡_}
+use mathlib.Core.Bool.{true}
 use mathlib.Core.List.{List, [], _∷_, map}
 use lib.IntN.{ℤ, pos}
 use lib.ListN.{length, take, replicate}
+use Rattle.base.specs.Scans.{among}
 use Rattle.rules.specs.declared.Layout.{Layout}
+use Rattle.rules.specs.declared.Refusal.{Refusal}
 use Rattle.rules.specs.declared.Reading.{Reading}
 use Rattle.rules.specs.declared.TimeOfCount.{TimeOfCount}
 use Rattle.rules.specs.declared.CountAtTime.{CountAtTime}
-use Rattle.rules.specs.Answer.{Answer, answer, refuse, reading, timeOfCount, countAtTime}
+use Rattle.rules.specs.Answer.{Answer, answer, refused, refuse, reading, timeOfCount, countAtTime}
 use Rattle.rules.specs.Partitions.{Partitions, partitions}
 use Rattle.rules.specs.Segments.{Segments, segments}
 use Rattle.rules.specs.Examples.{bytes, layoutA, partitionsA, segmentsA}
+use Rattle.roundtrip.specs.RoundTrip.{TenSlots}
 use Rattle.versions.specs.Versions.{Table, Accepted, Hypothesis, Says, readBy, PrintedAnswer, printed, timeBy, countBy, Agree, olderRefusesStamp, olderRefusesCount, olderRefusesTime, Exception, Demand3}
 use Rattle.versions.specs.Versions.{same-n, same-moduli, same-offsets, same-delimiter, kept-starts, kept-ends, last-end, kept-counts, kept-times, kept-rates, further-counts, no-step-back}
 
@@ -123,31 +127,39 @@ pub record Needed (h : Hypothesis) (r : Row) : Type 0 where
   pub newer-replies : ask (r .newer) (r .asked) ≡ r .newer-says
   pub fails : Demand3 (r .older) (r .newer) → ⊥
 
--- For the exception, named by their totals: modulus 10, offset 1; partition 0..9, and the newer adds 0..5.
+-- For the exception, named by their totals: nine partitions 0..1, and the newer adds a tenth.
 abbrev pub nine : Table
-nine = table (clock 1 10 1 1 1) (partitions (0 ∷ []) (9 ∷ [])) (smallest .segments)
+nine = over (replicate 9 0) (replicate 9 1)
 
-abbrev pub fourteen : Table
-fourteen = table (clock 1 10 1 1 1) (partitions (0 ∷ 0 ∷ []) (9 ∷ 5 ∷ [])) (smallest .segments)
+abbrev pub ten : Table
+ten = over (replicate 10 0) (replicate 10 1)
 
 -- the two tables print 9 into so many bytes
 abbrev pub byNine : ℕ → Answer PrintedAnswer
 byNine room = printed nine 9 (replicate room 0)
 
-abbrev pub byFourteen : ℕ → Answer PrintedAnswer
-byFourteen room = printed fourteen 9 (replicate room 0)
+abbrev pub byTen : ℕ → Answer PrintedAnswer
+byTen room = printed ten 9 (replicate room 0)
 
--- The exception is needed for both halves of the claim: the two tables meet every hypothesis, and do not agree on 9.
+-- The exception is needed: the two tables meet every hypothesis, and on 9 the newer gives another answer, or none.
 pub record ExceptionNeeded : Type 0 where
   pub accepted-older : Accepted nine
-  pub accepted-newer : Accepted fourteen
-  pub says : (h : Hypothesis) → Says nine fourteen h
-  pub older-into-four : byNine 4 ≡ prints "1/10"
-  pub newer-into-four : byFourteen 4 ≡ prints "2/1"
-  pub not-the-same : Agree olderRefusesCount (byNine 4) (byFourteen 4) → ⊥
-  pub older-into-three : byNine 3 ≡ refuse 16
-  pub newer-into-three : byFourteen 3 ≡ prints "2/1"
-  pub not-refused-12 : Agree olderRefusesCount (byNine 3) (byFourteen 3) → ⊥
+  pub accepted-newer : Accepted ten
+  pub says : (h : Hypothesis) → Says nine ten h
+  pub older-into-four : byNine 4 ≡ prints "9/1"
+  pub newer-into-four : byTen 4 ≡ prints "10/0"
+  pub not-the-same : Agree olderRefusesCount (byNine 4) (byTen 4) → ⊥
+  pub older-into-three : byNine 3 ≡ prints "9/1"
+  pub newer-into-three : byTen 3 ≡ refuse 16
+  pub not-answered : Agree olderRefusesCount (byNine 3) (byTen 3) → ⊥
+
+-- It is needed for "the same answer" alone. Since request 2 the newer's print is never the shorter one, so that
+-- "Where only the newer answers, the older refuses .. a count to print .. with 12" holds without an exception.
+abbrev pub RefusedEverywhere : Type 0
+RefusedEverywhere =
+    (older newer : Table) → Accepted older → Accepted newer → ((h : Hypothesis) → Says older newer h) → TenSlots (older .layout) → TenSlots (newer .layout)
+    → (e : ℕ) (b c : List ℕ) → length b ≡ length c → (a : PrintedAnswer) (k : Refusal) → printed newer e c ≡ answer a → printed older e b ≡ refused k
+    → among (k .number) olderRefusesCount ≡ true
 
 abbrev pub tableA : Table
 tableA = table layoutA partitionsA segmentsA

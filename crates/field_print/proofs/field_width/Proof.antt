@@ -4,4 +4,5 @@ use Rattle.field_print.proofs.field_width.Statement.{statement}
 use Rattle.field_print.proofs.field_width.Tie as tie
 
 pub field-width-spec : {M : Type 1} → statement M
-field-width-spec = tie.close (tie.spec (λ c. search needs) (λ c κs. search needs) (λ c. (search (field-width-is, needs), search needs)))
+field-width-spec =
+    tie.close (tie.spec (λ c. search needs) (λ c. search needs) (λ c κs. search needs) (λ c. (search (field-width-is, needs), search needs)))

@@ -1,16 +1,18 @@
-use Prim.Native.Nat.{_+_, _*_, _≤_}
+use Prim.Native.Nat.{_+_, _-_, _*_, _≤_}
+use mathlib.Core.Path.{_≡_}
 use lib.ListN.{length}
 use borrow.Author.Needs.{needs}
 use native.Mathlib.Omega.{arith}
-use Rattle.field_print.proofs.LastToFirst.{At, LengthLeft, at-last, at-next, later-facts, later-modulus, first-facts, length-start, length-next, length-first}
+use Rattle.field_print.proofs.OneField.{field-facts}
+use Rattle.field_print.proofs.Widths.{bytesBefore, widths-start, widths-next, widths-done}
 use Rattle.field_print.proofs.fields_length.Statement.{statement}
 use Rattle.field_print.proofs.fields_length.Tie as tie
 
 abbrev Inv-loop : tie.InvT-loop
-Inv-loop count moduli offsets rest₀ left₀ bytes₀ rest left bytes = At moduli count rest left × LengthLeft moduli offsets count rest left bytes × (bytes + 21 * left ≤ 21 * length moduli)
+Inv-loop moduli offsets bytes₀ i₀ bytes i = (i ≤ length moduli) × (bytes ≡ bytesBefore moduli offsets i) × (bytes ≤ 20 * i + 10)
 
 abbrev μ-loop : tie.MeasureT-loop
-μ-loop count moduli offsets rest₀ left₀ bytes₀ rest left bytes = left
+μ-loop moduli offsets bytes₀ i₀ bytes i = length moduli - i
 
 pub fields-length-spec : {M : Type 1} → statement M
 fields-length-spec =
@@ -18,21 +20,15 @@ fields-length-spec =
     (tie.spec
     Inv-loop
     μ-loop
-    (λ c. (search (at-last, needs), search (length-start, needs), omega arith))
+    (λ c. omega arith)
+    (λ c. (omega arith, search (widths-start, needs), omega arith))
     (λ c. omega arith)
     (λ c. omega arith)
     (λ c. omega arith)
-    (λ c. search (later-modulus, needs))
+    (λ c. omega arith)
+    (λ c κs. search (field-facts, needs))
     (λ c. omega arith)
     (λ c. omega arith)
-    (λ c κs. search (later-facts, needs))
     (λ c. omega arith)
-    (λ c. omega arith)
-    (λ c. search (later-modulus, needs))
-    (λ c. omega arith)
-    (λ c. (search (at-next, needs), search (length-next, needs), omega arith))
-    (λ c. omega arith)
-    (λ c. omega arith)
-    (λ c κs. search (first-facts, needs))
-    (λ c. omega arith)
-    (λ c. (search (length-first, needs), omega arith)))
+    (λ c. (omega arith, search (widths-next, needs), omega arith))
+    (λ c. (search (widths-done, needs), omega arith)))

@@ -2,12 +2,13 @@ use Rattle.rules.specs.Print.{fieldsPrint}
 use Rattle.decimal.proofs.RightToLeft.{Left}
 use borrow.Author.Needs.{needs}
 use native.Mathlib.Omega.{arith}
-use Rattle.field_print.proofs.LastToFirst.{At, frontOf, at-last, at-next, later-facts, later-modulus, first-facts, fields-start, later-room, later-next, first-room, first-done}
+use Rattle.field_print.proofs.OneField.{field-facts}
+use Rattle.field_print.proofs.LastToFirst.{At, frontOf, at-last, at-next, later-facts, later-modulus, later-below, first-below, fields-start, later-room, later-next, first-room, first-done}
 use Rattle.field_print.proofs.write_fields.Statement.{statement}
 use Rattle.field_print.proofs.write_fields.Tie as tie
 
 abbrev Inv-loop : tie.InvT-loop
-Inv-loop delimiter count moduli offsets end buffer₀ rest₀ left₀ at₀ buffer rest left at = At moduli count rest left × Left (fieldsPrint delimiter count moduli offsets) (frontOf moduli offsets delimiter rest left) end at buffer₀ buffer
+Inv-loop delimiter count moduli offsets end buffer₀ rest₀ left₀ at₀ buffer rest left at = At moduli rest left × Left (fieldsPrint delimiter count moduli offsets) (frontOf moduli offsets delimiter rest left) end at buffer₀ buffer
 
 abbrev μ-loop : tie.MeasureT-loop
 μ-loop delimiter count moduli offsets end buffer₀ rest₀ left₀ at₀ buffer rest left at = left
@@ -25,12 +26,12 @@ write-fields-spec =
     (λ c. search (later-modulus, needs))
     (λ c. omega arith)
     (λ c. omega arith)
-    (λ c κs. (search (later-facts, needs), search (later-room, needs)))
+    (λ c κs. (search (later-facts, needs), (search (later-below, needs), search (later-room, needs))))
     (λ c. search (later-modulus, needs))
     (λ c. omega arith)
     (λ c. (search (at-next, needs), search (later-next, needs)))
     (λ c. omega arith)
     (λ c. omega arith)
-    (λ c κs. (search (first-facts, needs), search (first-room, needs)))
+    (λ c κs. (search (field-facts, needs), (search (first-below, needs), search (first-room, needs))))
     (λ c. search needs)
     (λ c. search (first-done, needs)))
