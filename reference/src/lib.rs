@@ -1,7 +1,7 @@
-//! An independent second reading of the clock rules: document 01, sentence by sentence, and request 1 of document 02, in
-//! plain Rust.
+//! An independent second reading of the clock rules: document 01, sentence by sentence, and requests 1 and 2 of document
+//! 02, in plain Rust.
 //!
-//! Words in quotation marks in the comments are document 01's. Every public call checks the tables it uses.
+//! Words in quotation marks in the comments are document 01's or a request's. Every public call checks the tables it uses.
 
 // Ranges are written as document 01 writes them.
 #![allow(clippy::manual_range_contains)]

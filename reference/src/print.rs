@@ -56,13 +56,14 @@ impl Print {
         }
     }
 
-    /// "each field has its offset added, and is zero-padded to as many digits as the number modulus - 1 has (0 has
-    /// one). Fields are joined by the delimiter."
+    /// "each field has its offset added, and is zero-padded to as many digits as the number" modulus + offset - 1 "has (0
+    /// has one)", as request 2 amends it: "The width must be that of the largest shown number, modulus plus offset less
+    /// one." "Fields are joined by the delimiter."
     fn fields(&mut self, clock: &Clock, count: u64) {
         let mut left = count;
         for i in (0..clock.moduli.len()).rev() {
-            let modulus = clock.moduli[i];
-            self.number(left % modulus + clock.offsets[i], digits(modulus - 1));
+            let (modulus, offset) = (clock.moduli[i], clock.offsets[i]);
+            self.number(left % modulus + offset, digits(modulus + offset - 1));
             left /= modulus;
             if i > 0 {
                 self.byte(clock.mark);

@@ -17,7 +17,9 @@ fn older(random: &mut Random) -> Tables {
             tables.layout.moduli[i] = random.between(1, 12);
             tables.layout.offsets[i] = random.pick(&[0, 0, 1, 5, 1_000]);
         }
-        add_partitions(random, &mut tables);
+        // At times nine partitions: the number of the next is longer.
+        let rows = random.pick(&[1, 2, 9]);
+        add_partitions(random, &mut tables, rows);
         let first = random.between(0, total(&tables));
         tables.count.push(random.pick(&[0, 0, first]));
         tables.time.push(random.between(0, 100) as i64 - 50);
@@ -41,7 +43,8 @@ fn newer(random: &mut Random, older: &Tables) -> Tables {
             *end = random.between(*end, p - 1);
         }
         if random.chance(60) {
-            add_partitions(random, &mut tables);
+            let rows = random.between(1, 2);
+            add_partitions(random, &mut tables, rows);
         }
         let highest = total(&tables);
         add_segments(random, &mut tables, total(older) + 1, highest);
@@ -64,9 +67,9 @@ fn rate(random: &mut Random, tables: &Tables) -> u64 {
     1_000 * msf + random.pick(&[0, 0, 1, 500 * msf, 1_000 * msf]) + random.between(0, 300 * msf)
 }
 
-fn add_partitions(random: &mut Random, tables: &mut Tables) {
+fn add_partitions(random: &mut Random, tables: &mut Tables, rows: u64) {
     let p = product(tables);
-    for _ in 0..random.between(1, 2) {
+    for _ in 0..rows {
         if p > 1 {
             let start = random.between(0, p - 2);
             tables.start.push(start);
@@ -184,6 +187,8 @@ fn on_random_pairs() {
                 let fitting = |text: Vec<u8>| if text.len() <= len { Ok(text) } else { Err(16) };
                 assert_eq!(old_print, fitting(text(last + 1, old.end[last])));
                 assert_eq!(new_print, fitting(text(last + 2, new.start[last + 1])));
+                // Since request 2 the newer's print is never the shorter one.
+                assert!(old_print.is_ok() || new_print.is_err());
                 seen.note(format!("exception {} {}", word(&old_print), word(&new_print)));
             } else {
                 assert!(seen.claim("print", old_print, new_print, &[12]));
@@ -219,7 +224,6 @@ fn on_random_pairs() {
         "count-at 14",
         "count-at neither",
         "exception ok ok",
-        "exception 16 ok",
         "exception ok 16",
         "exception 16 16",
         "newer steps back, claim holds",
@@ -236,16 +240,33 @@ fn word(print: &Result<Vec<u8>, u32>) -> String {
     }
 }
 
+/// Where the newer's number has one digit more, its print does not fit where the older's does.
 #[test]
 fn the_exception_at_its_smallest() {
+    let layout = common::plain(&[2]);
+    let older = Partitions { start: &[0; 9], end: &[1; 9] };
+    let newer = Partitions { start: &[0; 10], end: &[1; 10] };
+    let mut lent = [0; 3];
+    assert_eq!(print_stamp(&layout, newer, 9, &mut lent), Err(16));
+    assert_eq!(lent, [0; 3]);
+    assert_eq!(print_stamp(&layout, older, 9, &mut lent), Ok(3));
+    assert_eq!(&lent, b"9/1");
+    assert_eq!(common::printed_stamp(&layout, newer, 9).unwrap(), "10/0");
+}
+
+/// Without request 2 the newer's print was the shorter one, `2/1`.
+#[test]
+fn the_exception_with_an_offset() {
     let layout = common::layout(&[10], &[1], 1);
     let older = Partitions { start: &[0], end: &[9] };
     let newer = Partitions { start: &[0, 0], end: &[9, 5] };
-    let mut lent = [0; 3];
-    assert_eq!(print_stamp(&layout, older, 9, &mut lent), Err(16));
-    assert_eq!(lent, [0; 3]);
-    assert_eq!(print_stamp(&layout, newer, 9, &mut lent), Ok(3));
-    assert_eq!(&lent, b"2/1");
+    for (partitions, print) in [(older, b"1/10"), (newer, b"2/01")] {
+        let mut lent = [0; 4];
+        assert_eq!(print_stamp(&layout, partitions, 9, &mut lent[..3]), Err(16));
+        assert_eq!(lent, [0; 4]);
+        assert_eq!(print_stamp(&layout, partitions, 9, &mut lent), Ok(4));
+        assert_eq!(&lent, print);
+    }
 }
 
 #[test]

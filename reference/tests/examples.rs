@@ -110,9 +110,10 @@ fn printing_a_count() {
     for (delimiter, print) in [(1, "03.4"), (2, "03:4"), (3, "03-4"), (4, "03,4"), (5, "03 4")] {
         assert_eq!(printed_count(&layout(&[100, 10], &[0, 0], delimiter), 34).unwrap(), print);
     }
-    // Width of modulus - 1: a modulus of 1 has one digit, 10 one, 11 two.
+    // Offset 0, width of modulus - 1: a modulus of 1 has one digit, 10 one, 11 two.
     assert_eq!(printed_count(&plain(&[10, 11, 1]), 0).unwrap(), "0.00.0");
     // An offset may need more digits than that.
     assert_eq!(printed_count(&layout(&[10, 10], &[1, 1_000], 1), 99).unwrap(), "10.1009");
-    assert_eq!(printed_count(&layout(&[100, 1], &[1, 7], 1), 3).unwrap(), "04.7");
+    // Request 2: 1 to 100 are shown with three.
+    assert_eq!(printed_count(&layout(&[100, 1], &[1, 7], 1), 3).unwrap(), "004.7");
 }

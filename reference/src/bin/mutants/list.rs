@@ -130,8 +130,8 @@ pub const MUTANTS: &[Mutant] = &[
         "    partitions.check(layout.check()?.p)?; if message.len() < 2 {",
     ),
     // Printing.
-    mutant("width-of-modulus", "print.rs", "digits(modulus - 1)", "digits(modulus)"),
-    mutant("width-with-offset", "print.rs", "digits(modulus - 1)", "digits(modulus - 1 + clock.offsets[i])"),
+    mutant("width-of-modulus", "print.rs", "digits(modulus + offset - 1)", "digits(modulus)"),
+    mutant("width-without-offset", "print.rs", "digits(modulus + offset - 1)", "digits(modulus - 1)"),
     mutant(
         "inner-end-as-end",
         "partitions.rs",
