@@ -128,7 +128,7 @@ fn lent_buffers() {
 }
 
 #[test]
-fn the_longest_print_is_readable() {
+fn a_long_print_is_readable() {
     let layout = layout(&[10; 10], &[1_000; 10], 5);
     let start = vec![0; 9_999];
     let end = vec![9_999_999_999; 9_999];
