@@ -24,7 +24,7 @@ pub struct Tally {
     /// Kernel texts, and those of them answered.
     pub kernels: u64,
     pub kernels_answered: u64,
-    /// Comments before kernel texts that say another outcome, with the outcome.
+    /// Comments before kernel texts that say another outcome, with the outcome; prints of another length.
     pub unexpected: Vec<String>,
 }
 
@@ -62,10 +62,19 @@ impl Tally {
                 "3" => self.rule(&segment_faults(tables)),
                 _ => {}
             }
-            [call, " refused ", second, &clause(&question, second)].concat()
+            [call, " refused ", second, &clause(tables, &question, second)].concat()
         } else {
             self.answered += 1;
-            [call, " ok", if call == "steps-back" { &answer[2..answer.len() - 1] } else { "" }].concat()
+            let lengths = lengths(tables, &question);
+            if lengths.map_or(false, |(len, _)| second != len.to_string()) {
+                self.unexpected.push(format!("{}: {}", call, answer));
+            }
+            let clause = match lengths {
+                Some((len, before)) if len > before => ", wider by an offset",
+                _ if call == "steps-back" => &answer[2..answer.len() - 1],
+                _ => "",
+            };
+            [call, " ok", clause].concat()
         };
         *self.outcomes.entry(outcome).or_insert(0) += 1;
     }
@@ -117,9 +126,40 @@ fn name(question: &Question) -> &'static str {
     }
 }
 
+/// The length of a print, and what it was before request 2, each field as wide as modulus - 1.
+fn lengths(tables: &Tables, question: &Question) -> Option<(usize, usize)> {
+    let (number, count) = match *question {
+        Question::PrintCount { count, .. } => (None, count),
+        Question::PrintStamp { e, .. } => {
+            let (mut row, mut left) = (0, e);
+            while row + 1 < tables.start.len() && left >= tables.end[row] - tables.start[row] {
+                left -= tables.end[row] - tables.start[row];
+                row += 1;
+            }
+            (Some(row + 1), tables.start[row] + left)
+        }
+        _ => return None,
+    };
+    let digits = |number: u64| number.to_string().len();
+    let others = number.map_or(0, |number| digits(number as u64) + 1) + tables.layout.n as usize - 1;
+    let (mut len, mut before, mut left) = (others, others, count);
+    for i in (0..tables.layout.n as usize).rev() {
+        let (modulus, offset) = (tables.layout.moduli[i], tables.layout.offsets[i]);
+        len += digits(modulus + offset - 1);
+        before += digits(modulus - 1).max(digits(left % modulus + offset));
+        left /= modulus;
+    }
+    Some((len, before))
+}
+
 /// Which of a refusal's clauses it was.
-fn clause(question: &Question, refusal: &str) -> String {
+fn clause(tables: &Tables, question: &Question, refusal: &str) -> String {
     let clause = match (question, refusal) {
+        (Question::PrintCount { len, .. } | Question::PrintStamp { len, .. }, "16")
+            if lengths(tables, question).map_or(false, |(_, before)| before <= *len) =>
+        {
+            "wider by an offset"
+        }
         (Question::ReadText(text), _) => text_clause(text, refusal, false),
         (Question::ReadStamp(text), _) => text_clause(text, refusal, true),
         (Question::ReadMessage(message), "17") => message_clause(message),

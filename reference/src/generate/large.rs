@@ -1,7 +1,9 @@
 //! Tables as long as they may be, and longer.
 
+use super::catalogue::longest;
+use super::tables::total;
 use super::writer::Writer;
-use crate::script::{Tables, MOST_ENTRIES};
+use crate::script::{Question, Tables, MOST_ENTRIES};
 use crate::{Layout, Partitions, Segments};
 
 const E15: u64 = 1_000_000_000_000_000;
@@ -19,6 +21,14 @@ pub fn all(writer: &mut Writer) {
     }
     writer.load(&tables);
     questions(writer, 24);
+    // The clock with the longest prints: stamps of 63 bytes at the front, of 66 at the end.
+    writer.layout(&longest());
+    for e in [0, total(&tables) - 1, total(&tables)] {
+        for len in [62, 63, 65, 66, 67] {
+            writer.ask(Question::PrintStamp { e, fill: 45, len });
+        }
+    }
+    writer.layout(&layout);
     // The 10,000th segment, the 10,001st, and one that the lists do not hold.
     for row in Segments::MOST as u64 - 1..=MOST_ENTRIES as u64 {
         add_segment(&mut tables, row);

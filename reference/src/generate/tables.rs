@@ -56,7 +56,7 @@ pub fn layout(random: &mut Random) -> Layout {
         }
         5 => largest_p(random),
         6 => around_powers(random),
-        7 => vec![random.pick(&[2, 3, 9, 10, 11, E12, E15 - 1, E15])],
+        7 => vec![random.pick(&[2, 3, 9, 10, 11, E12, E15 - 999, E15 - 1, E15])],
         8 => {
             let most = random.between(1, 1_000);
             vec![most, random.pick(&[E12, E12 - 1, 1_000_000])]
@@ -87,7 +87,7 @@ fn largest_p(random: &mut Random) -> Vec<u64> {
     moduli
 }
 
-/// Moduli with a width that changes: 9, 10, 11, 99, 100, 101 and so on.
+/// Moduli with a width that changes, 9, 10, 11, 99, 100, 101 and so on, or that an offset makes wider.
 fn around_powers(random: &mut Random) -> Vec<u64> {
     let n = random.between(1, 6) as usize;
     let mut moduli = vec![1; n];
@@ -96,8 +96,10 @@ fn around_powers(random: &mut Random) -> Vec<u64> {
         if i == 0 {
             left = left.saturating_mul(1_000);
         }
-        let power = random.pick(&[10, 100, 1_000, 10_000]);
-        let modulus = random.near(power);
+        let power: u64 = random.pick(&[10, 100, 1_000, 10_000, 1_000_000]);
+        let less = random.magnitude(power.min(1_000) - 1);
+        let near = random.near(power);
+        let modulus = random.pick(&[near, near, power - less]);
         if modulus <= left {
             moduli[i] = modulus;
             left /= modulus;
@@ -125,13 +127,14 @@ fn any_size(random: &mut Random) -> Vec<u64> {
 fn fill(random: &mut Random, moduli: &[u64]) -> Layout {
     let mut layout =
         Layout { n: moduli.len() as u64, moduli: [0; 10], offsets: [0; 10], delimiter: random.between(1, 5) as u8 };
-    let offsets = random.below(3);
+    let offsets = random.below(5);
     for i in 0..10 {
-        let any = random.magnitude(1_000);
+        let any = random.magnitude(Layout::LARGEST_OFFSET);
         layout.offsets[i] = match offsets {
             0 => 0,
             1 => random.pick(&[0, 1]),
-            _ => random.pick(&[0, 1, 9, 10, 999, 1_000, any]),
+            2 => random.pick(&[0, 1, 9, 10, 999, 1_000, any]),
+            _ => moduli.get(i).and_then(|&modulus| to_a_power(random, modulus)).unwrap_or(any),
         };
         let junk = random.word();
         layout.moduli[i] = moduli.get(i).copied().unwrap_or_else(|| random.pick(&[0, 1, u64::MAX, junk]));
@@ -140,6 +143,17 @@ fn fill(random: &mut Random, moduli: &[u64]) -> Layout {
         }
     }
     layout
+}
+
+/// An offset with which the largest shown number is a power of ten, one more or one less, if there is one.
+fn to_a_power(random: &mut Random, modulus: u64) -> Option<u64> {
+    let powers: Vec<u64> =
+        (1..16).map(|zeros| 10u64.pow(zeros)).filter(|power| (modulus..modulus + 1_000).contains(power)).collect();
+    if powers.is_empty() {
+        return None;
+    }
+    let offset = random.pick(&powers) - modulus + 1;
+    Some(random.near(offset).min(Layout::LARGEST_OFFSET))
 }
 
 /// Partitions that break no rule, for a sound layout with P of at least 2.

@@ -114,10 +114,12 @@ fn step_back(writer: &mut Writer) {
         writer.ask(Question::CountAt(500));
         writer.ask(Question::TimeOf(600));
     }
-    // The exception of printing at its smallest.
-    let shown = layout(&[10], &[1], 1);
-    for partitions in [&[(0, 9)][..], &[(0, 9), (0, 5)]] {
-        writer.load(&tables(shown, partitions, &[(0, 0, 1_000)]));
+    // The exception of printing: the end of 0..9 and a next start; the end of nine partitions and the start of a tenth.
+    let (ten, two) = (layout(&[10], &[1], 1), plain(&[2]));
+    for (layout, partitions) in
+        [(ten, &[(0, 9)][..]), (ten, &[(0, 9), (0, 5)]), (two, &[(0, 1); 9]), (two, &[(0, 1); 10])]
+    {
+        writer.load(&tables(layout, partitions, &[(0, 0, 1_000)]));
         for len in 0..6 {
             writer.ask(Question::PrintStamp { e: 9, fill: 0, len });
         }

@@ -12,6 +12,7 @@ mod texts;
 use super::writer::Writer;
 use crate::script::Tables;
 use crate::Layout;
+pub use prints::longest;
 
 pub fn all(writer: &mut Writer) {
     // Before any table: all zeros, no lists.
