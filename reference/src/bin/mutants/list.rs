@@ -132,6 +132,27 @@ pub const MUTANTS: &[Mutant] = &[
     // Printing.
     mutant("width-of-modulus", "print.rs", "digits(modulus + offset - 1)", "digits(modulus)"),
     mutant("width-without-offset", "print.rs", "digits(modulus + offset - 1)", "digits(modulus - 1)"),
+    mutant("width-not-less-one", "print.rs", "digits(modulus + offset - 1)", "digits(modulus + offset)"),
+    mutant(
+        "width-of-first-field",
+        "print.rs",
+        "digits(modulus + offset - 1)",
+        "digits(clock.moduli[0] + clock.offsets[0] - 1)",
+    ),
+    mutant(
+        "width-of-field-before",
+        "print.rs",
+        "digits(modulus + offset - 1)",
+        "digits(clock.moduli[i.saturating_sub(1)] + clock.offsets[i.saturating_sub(1)] - 1)",
+    ),
+    mutant(
+        "width-of-widest-field",
+        "print.rs",
+        "digits(modulus + offset - 1)",
+        "(0..clock.moduli.len()).map(|i| digits(clock.moduli[i] + clock.offsets[i] - 1)).max().unwrap_or(1)",
+    ),
+    mutant("fields-unpadded", "print.rs", "digits(modulus + offset - 1)", "1"),
+    mutant("zero-has-no-digit", "print.rs", "let mut digits = 1;", "let mut digits = usize::from(number > 0);"),
     mutant(
         "inner-end-as-end",
         "partitions.rs",
@@ -153,6 +174,12 @@ pub const MUTANTS: &[Mutant] = &[
         "        buffer[print.len()..].fill(0); Ok(print.len())",
     ),
     mutant("padded-partition", "print.rs", "print.number(number, 1)", "print.number(number, 4)"),
+    mutant(
+        "partition-as-the-last",
+        "print.rs",
+        "print.number(number, 1)",
+        "print.number(number, digits(partitions.start.len() as u64))",
+    ),
     // Time.
     mutant("time-rounded-down", "time.rs", "(product + divisor - 1) / divisor", "product / divisor"),
     mutant(
