@@ -227,11 +227,11 @@ fn all_prints_of_a_clock_sort() {
     let mut random = Random::new(7);
     let mut unsorted_before = 0;
     for _ in 0..2_000 {
-        let n = random.between(1, 4) as usize;
+        let n = random.between(1, 3) as usize;
         let moduli: Vec<u64> = (0..n).map(|_| random.pick(&[1, 2, 3, 9, 10, 11])).collect();
         let offsets: Vec<u64> = (0..n).map(|_| random.pick(&[0, 1, 2, 8, 9, 10, 99, 989, 1_000])).collect();
         let layout = layout(&moduli, &offsets, random.between(1, 5) as u8);
-        let p = moduli.iter().product::<u64>().min(300);
+        let p: u64 = moduli.iter().product();
         let prints: Vec<Vec<u8>> = (0..p).map(|count| print(&layout, count)).collect();
         assert!(prints.windows(2).all(|pair| sorted(&pair[0], &pair[1])), "{:?}", layout);
         let before: Vec<Vec<u8>> = (0..p).map(|count| print_before(&layout, count)).collect();
@@ -240,7 +240,8 @@ fn all_prints_of_a_clock_sort() {
     assert!(unsorted_before > 500, "{}", unsorted_before);
 }
 
-/// Of one partition like prints of counts; of two, the earlier one's number is smaller.
+/// Of one partition like prints of counts; of two, the earlier one's number is smaller, and if it is as long the stamps
+/// sort too.
 #[test]
 fn stamps_sort() {
     let mut random = Random::new(8);
@@ -281,6 +282,7 @@ fn stamps_sort() {
                 unsorted_before += u64::from(!sorted(&before[0], &before[1]));
             } else {
                 assert!(number < next);
+                assert!(first.len() < second.len() || sorted(&first, &second));
                 across += 1;
             }
         }
