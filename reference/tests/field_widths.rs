@@ -217,7 +217,6 @@ fn prints_of_counts_sort() {
         }
     }
     // Many of these pairs were not sorted before.
-    println!("{} {}", pairs, unsorted_before);
     assert!(pairs > 80_000 && unsorted_before > 5_000);
 }
 
@@ -287,6 +286,5 @@ fn stamps_sort() {
             }
         }
     }
-    println!("{} {} {}", inside, across, unsorted_before);
     assert!(inside > 30_000 && across > 10_000 && unsorted_before > 2_000);
 }

@@ -40,7 +40,7 @@ unfolding sortsBefore
 sorts-itself [] = refl
 sorts-itself (b ∷ s) = rw (sorts-rest b b s s refl) (sorts-itself s)
 
-sorts-one-way : (s t : List ℕ) → sortsBefore s t ≡ true → sortsBefore t s ≡ false
+pub sorts-one-way : (s t : List ℕ) → sortsBefore s t ≡ true → sortsBefore t s ≡ false
 unfolding sortsBefore
 sorts-one-way s [] h = absurd (true≢false (sym h))
 sorts-one-way [] (b ∷ t) h = refl

@@ -32,7 +32,7 @@ quotient-decides x y q p h =
     same : x / q ≡ y / q → (x / q ≡ y / q) × (x % q < y % q)
     same e = (e, omega (arith, div-add-mod' x q, div-add-mod' y q, ap (λ k. k * q) e))
 
-digits-sort : (w x y : ℕ) → x < y → y < 10 ^ w → sortsBefore (lastDigits w x) (lastDigits w y) ≡ true
+pub digits-sort : (w x y : ℕ) → x < y → y < 10 ^ w → sortsBefore (lastDigits w x) (lastDigits w y) ≡ true
 unfolding lastDigits
 digits-sort zero x y h l = absurd (omega arith)
 digits-sort (suc w) x y h l =

@@ -1,25 +1,36 @@
 -- Stamps: those of one partition as their counts, those of two by their partitions.
 use Prim.Native.Nat.{ℕ, suc, _+_, _≤_, _<_}
-use mathlib.Core.Path.{_≡_, refl, ap, _∙_}
+use mathlib.Core.Path.{_≡_, refl, sym, ap, _∙_}
 use mathlib.Core.Bool.{true, _&&_, _||_}
-use mathlib.Core.List.{_∷_, _++_}
+use mathlib.Core.List.{List, _∷_, _++_}
 use lib.Dec.{ltb, eqb}
 use lib.ListN.{length, length-append}
 use borrow.Author.Tests.{lt-ltb, le-ltb, eq-eqb, ne-eqb, ltb-true, ltb-false}
+use native.Mathlib.Nat.{max-eq-right}
 use native.Mathlib.Omega.{arith}
 use Rattle.base.proofs.Tests.{by-test, leb-same}
 use Rattle.rules.specs.declared.Layout.{Layout}
 use Rattle.rules.specs.Layout.{layoutOk, productOf}
 use Rattle.rules.specs.Partitions.{Partitions, lengthsBefore, partitionsOk, totalOf}
 use Rattle.rules.proofs.Accepted.{partitions-facts}
-use Rattle.rules.specs.Print.{padded, countPrint, partitionOf, decodedIn, stampPrint}
+use Rattle.rules.specs.Print.{digitCount, lastDigits, padded, countPrint, partitionOf, decodedIn, stampPrint}
 use Rattle.roundtrip.specs.RoundTrip.{TenSlots}
-use Rattle.roundtrip.proofs.Digits.{digits-some, padded-length}
+use Rattle.roundtrip.proofs.Digits.{digits-some, digits-enough, last-length, padded-length}
 use Rattle.roundtrip.proofs.Encoded.{Lies, lies, before-up}
 use Rattle.roundtrip.proofs.Ends.{stamp-count-below-p}
 use Rattle.print_order.specs.Order.{sortsBefore, stampLength, StampsOneLength, StampsInOrder, StampsAcross}
-use Rattle.print_order.proofs.Bytes.{sorts-rest, sorts-same}
+use Rattle.print_order.proofs.Bytes.{sorts-rest, sorts-front, sorts-same, sorts-one-way}
+use Rattle.print_order.proofs.Fields.{digits-sort}
 use Rattle.print_order.proofs.Counts.{counts-one-length, counts-in-order}
+
+-- numbers of equally many digits, whatever follows them
+numbers-sort : (x y : ℕ) (s t : List ℕ) → x < y → digitCount x ≡ digitCount y → sortsBefore (padded 1 x ++ s) (padded 1 y ++ t) ≡ true
+unfolding padded
+numbers-sort x y s t less same =
+    rw (max-eq-right (digits-some x), max-eq-right (digits-some y), same)
+    (sorts-front (lastDigits (digitCount y) x) (lastDigits (digitCount y) y) s t
+    (last-length (digitCount y) x ∙ sym (last-length (digitCount y) y))
+    (digits-sort (digitCount y) x y less (digits-enough y)))
 
 module _ (l : Layout) (p : Partitions) (t : TenSlots l) (ok : layoutOk l ≡ true) (good : partitionsOk (productOf l) p ≡ true) where
   one-length : (e : ℕ) → e ≤ totalOf p → length (stampPrint l p e) ≡ stampLength l (partitionOf p e)
@@ -39,9 +50,9 @@ module _ (l : Layout) (p : Partitions) (t : TenSlots l) (ok : layoutOk l ≡ tru
   unfolding decodedIn
   decoded-grow e f i h k = leb-same (suc (decodedIn p e i)) (decodedIn p f i) (suc e) f (λ less. omega arith) (λ less. omega arith)
 
-  in-order : (e f : ℕ) → e ≤ totalOf p → f ≤ totalOf p → partitionOf p e ≡ partitionOf p f → sortsBefore (stampPrint l p e) (stampPrint l p f) ≡ ltb e f
+  in-one : (e f : ℕ) → e ≤ totalOf p → f ≤ totalOf p → partitionOf p e ≡ partitionOf p f → sortsBefore (stampPrint l p e) (stampPrint l p f) ≡ ltb e f
   unfolding stampPrint
-  in-order e f h k same =
+  in-one e f h k same =
       rw same
       (numbered (partitionOf p f) _ _ (rw same at (stamp-count-below-p (productOf l) p good e h)) (stamp-count-below-p (productOf l) p good f k)
       ∙ decoded-grow e f (partitionOf p f) (rw same at (place e h .from)) (place f k .from))
@@ -56,15 +67,34 @@ module _ (l : Layout) (p : Partitions) (t : TenSlots l) (ok : layoutOk l ≡ tru
       not-same : e ≡ f → ⊥
       not-same s = omega (arith, ap (partitionOf p) s)
 
+  -- two partitions: the same, or one of them is the earlier
+  by-partition : {A : Type 0} (e f : ℕ) → (partitionOf p e < partitionOf p f → A) → (partitionOf p e ≡ partitionOf p f → A) → (partitionOf p f < partitionOf p e → A) → A
+  by-partition e f less same more =
+      by-test (ltb (partitionOf p e) (partitionOf p f))
+      (λ y. less (ltb-true _ _ y))
+      (λ n. by-test (ltb (partitionOf p f) (partitionOf p e)) (λ y. more (ltb-true _ _ y)) (λ m. same (omega (arith, ltb-false (partitionOf p e) (partitionOf p f) n, ltb-false (partitionOf p f) (partitionOf p e) m))))
+
+  in-order : (e f : ℕ) → e ≤ totalOf p → f ≤ totalOf p → digitCount (partitionOf p e + 1) ≡ digitCount (partitionOf p f + 1) → sortsBefore (stampPrint l p e) (stampPrint l p f) ≡ ltb e f
+  unfolding stampPrint
+  in-order e f h k digits =
+      by-partition e f
+      (λ less. rw (lt-ltb e f (earlier e f h k less)) (numbers-sort _ _ _ _ (omega arith) digits))
+      (λ same. in-one e f h k same)
+      (λ more. rw (le-ltb e f (omega (arith, earlier f e k h more))) (sorts-one-way _ _ (numbers-sort _ _ _ _ (omega arith) (sym digits))))
+
   across : (e f : ℕ) → e ≤ totalOf p → f ≤ totalOf p
       → (ltb (partitionOf p e) (partitionOf p f) || (eqb (partitionOf p e) (partitionOf p f) && sortsBefore (stampPrint l p e) (stampPrint l p f))) ≡ ltb e f
   across e f h k =
-      by-test (ltb (partitionOf p e) (partitionOf p f))
-      (λ less. rw (less, lt-ltb e f (earlier e f h k (ltb-true _ _ less))))
-      (λ no. by-test (ltb (partitionOf p f) (partitionOf p e))
-      (λ more. let l = ltb-true (partitionOf p f) (partitionOf p e) more in rw (no, ne-eqb (partitionOf p e) (partitionOf p f) (λ s. omega arith), le-ltb e f (omega (arith, earlier f e k h l))))
-      (λ nor. let s : partitionOf p e ≡ partitionOf p f = omega (arith, ltb-false (partitionOf p e) (partitionOf p f) no, ltb-false (partitionOf p f) (partitionOf p e) nor) in
-      rw (no, eq-eqb (partitionOf p e) (partitionOf p f) s) (in-order e f h k s)))
+      by-partition e f
+      (λ less. rw (lt-ltb i j less, lt-ltb e f (earlier e f h k less)))
+      (λ same. rw (le-ltb i j (omega arith), eq-eqb i j same) (in-one e f h k same))
+      (λ more. rw (le-ltb i j (omega arith), ne-eqb i j (λ s. omega arith), le-ltb e f (omega (arith, earlier f e k h more))))
+    where
+      i : ℕ
+      i = partitionOf p e
+
+      j : ℕ
+      j = partitionOf p f
 
 pub stamps-one-length : StampsOneLength
 stamps-one-length = one-length

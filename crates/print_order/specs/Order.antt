@@ -1,5 +1,5 @@
 -- Request 2: "Stamps of different length break our sorting." Under one layout all prints of counts have one length, and in byte order
--- they stand as their counts do. So do the stamps of one partition.
+-- they stand as their counts do. So do the stamps of one partition, and of partitions whose numbers are as long.
 use Prim.Native.Nat.{ℕ, _+_, _-_, _≤_, _<_}
 use mathlib.Core.Path.{_≡_}
 use mathlib.Core.Bool.{Bool, true, false, _&&_, _||_}
@@ -48,11 +48,11 @@ StampsOneLength =
     (l : Layout) (p : Partitions) → TenSlots l → layoutOk l ≡ true → partitionsOk (productOf l) p ≡ true → (e : ℕ) → e ≤ totalOf p
     → length (stampPrint l p e) ≡ stampLength l (partitionOf p e)
 
--- and the smaller encoded count prints first
+-- and the smaller encoded count prints first; so it does where the numbers of two partitions have equally many digits, as those of up to nine have
 abbrev pub StampsInOrder : Type 0
 StampsInOrder =
     (l : Layout) (p : Partitions) → TenSlots l → layoutOk l ≡ true → partitionsOk (productOf l) p ≡ true → (e f : ℕ) → e ≤ totalOf p → f ≤ totalOf p
-    → partitionOf p e ≡ partitionOf p f → sortsBefore (stampPrint l p e) (stampPrint l p f) ≡ ltb e f
+    → digitCount (partitionOf p e + 1) ≡ digitCount (partitionOf p f + 1) → sortsBefore (stampPrint l p e) (stampPrint l p f) ≡ ltb e f
 
 -- Stamps of any partitions are in the order of their encoded counts if they are sorted by the partition's number and then as text.
 abbrev pub StampsAcross : Type 0
@@ -69,6 +69,6 @@ CountCallsInOrder =
 
 abbrev pub StampCallsInOrder : Type 0
 StampCallsInOrder =
-    (l : Layout) (p : Partitions) → TenSlots l → (e f : ℕ) (b b' : List ℕ) (n n' : ℕ) → partitionOf p e ≡ partitionOf p f
+    (l : Layout) (p : Partitions) → TenSlots l → (e f : ℕ) (b b' : List ℕ) (n n' : ℕ) → digitCount (partitionOf p e + 1) ≡ digitCount (partitionOf p f + 1)
     → lengthPrinted (printStamp l p e (length b)) ≡ answer n → lengthPrinted (printStamp l p f (length b')) ≡ answer n'
     → (n ≡ n') × (sortsBefore (take n (bufferAfter (printStamp l p e (length b)) b)) (take n' (bufferAfter (printStamp l p f (length b')) b')) ≡ ltb e f)
