@@ -1,5 +1,5 @@
 -- The loop that writes the fields of a count, from the last to the first.
-use Prim.Native.Nat.{ℕ, zero, suc, _+_, _-_, _*_, _/_, _%_, _≤_, _<_}
+use Prim.Native.Nat.{ℕ, zero, suc, _+_, _-_, _*_, _/_, _%_, _^_, _≤_, _<_}
 use mathlib.Core.Path.{_≡_, sym, _∙_}
 use mathlib.Core.List.{List, _∷_, _++_}
 use lib.ListN.{length, getD, take}
@@ -8,13 +8,16 @@ use native.Mathlib.Nat.{mod-lt, le-refl, div-lt-iff-lt-mul}
 use native.Mathlib.Omega.{arith}
 use Rattle.base.specs.Scans.{product}
 use Rattle.base.proofs.Lists.{product-pos}
-use Rattle.rules.specs.Print.{fieldPrint, fieldsPrint}
+use Rattle.rules.specs.Limits.{largestOffset}
+use Rattle.rules.specs.Print.{lastDigits, fieldWidth, fieldPrint, fieldsPrint}
+use Rattle.roundtrip.proofs.Digits.{last-length}
 use Rattle.roundtrip.proofs.Fields.{print-last}
+use Rattle.roundtrip.proofs.Length.{field-digits}
 use Rattle.decimal.specs.Writing.{Room, Written}
 use Rattle.decimal.proofs.RightToLeft.{Left, left-all, left-room, left-next, left-done}
-use Rattle.field_print.specs.Facts.{FieldFacts, FieldsFacts}
+use Rattle.field_print.specs.Facts.{FieldsFacts}
 use Rattle.field_print.proofs.Split.{product-one, product-snoc, front-positive, fields-snoc}
-use Rattle.field_print.proofs.OneField.{field-facts}
+use Rattle.field_print.proofs.OneField.{FieldFacts, field-facts}
 
 -- the first `left` fields, which are those of `rest`
 abbrev pub frontOf : List ℕ → List ℕ → ℕ → ℕ → ℕ → List ℕ
@@ -59,19 +62,29 @@ module _ (ms os : List ℕ) (f : FieldsFacts ms os) where
   at-last c h = record { some = f .some; within = le-refl _; below = rw (take-all (length ms) ms (le-refl _)) h }
 
   module _ (rest left : ℕ) (at : At ms rest left) where
-    pub later-facts : 1 < left → FieldFacts (getD ms (left - 1) 0) (getD os (left - 1) 0)
+    later-facts : 1 < left → FieldFacts (getD ms (left - 1) 0) (getD os (left - 1) 0)
     later-facts h = field-facts ms os f (left - 1) (omega arith)
 
     pub later-modulus : 1 < left → 1 ≤ getD ms (left - 1) 0
     later-modulus h = later-facts h .modulus
 
-    pub later-below : 1 < left → rest % getD ms (left - 1) 0 < getD ms (left - 1) 0
+    later-below : 1 < left → rest % getD ms (left - 1) 0 < getD ms (left - 1) 0
     later-below h = mod-lt rest (later-modulus h)
 
-    pub first-below : left ≤ 1 → rest < getD ms 0 0
+    first-below : left ≤ 1 → rest < getD ms 0 0
     first-below h =
         let n : left ≡ 1 = omega (arith, at .some) in
         rw (n, take-suc ms 0 0 (f .some), product-one) at (at .below)
+
+    -- shown numbers fit a word
+    pub later-offset : 1 < left → getD os (left - 1) 0 ≤ largestOffset
+    later-offset h = later-facts h .offset
+
+    pub later-fits : 1 < left → (x : ℕ) → x ≤ largestOffset → rest % getD ms (left - 1) 0 + x < 2 ^ 64
+    later-fits h x k = let g = later-facts h in omega (arith, later-below h)
+
+    pub first-fits : left ≤ 1 → rest + getD os 0 0 < 2 ^ 64
+    first-fits h = let g = field-facts ms os f 0 (f .some) in omega (arith, first-below h)
 
     pub at-next : 1 < left → At ms (rest / getD ms (left - 1) 0) (left - 1)
     at-next h =
@@ -79,28 +92,34 @@ module _ (ms os : List ℕ) (f : FieldsFacts ms os) where
         let below : rest < product (take (left - 1) ms) * getD ms (left - 1) 0 = rw (← product-snoc (take (left - 1) ms) (getD ms (left - 1) 0), ← take-suc ms (left - 1) 0 (omega (arith, at .within)), ← n) (at .below) in
         record { some = omega arith; within = omega (arith, at .within); below = div-lt-iff-lt-mul {k = getD ms (left - 1) 0} (later-modulus h) .1 below }
 
-    module _ (s : List ℕ) (d end place : ℕ) (entry buffer : List ℕ) (l : Left s (frontOf ms os d rest left) end place entry buffer) where
-      pub later-room : 1 < left → Room (d ∷ lastOf ms os rest left) place buffer
-      later-room h = left-room s
-          (frontOf ms os d (rest / getD ms (left - 1) 0) (left - 1))
-          (d ∷ lastOf ms os rest left)
-          end place entry buffer (rw (fields-last d rest left h (at .within)) at l)
+    module _ (s : List ℕ) (d end place width : ℕ) (entry buffer : List ℕ) (l : Left s (frontOf ms os d rest left) end place entry buffer) where
+      module _ (h : 1 < left) (e : width ≡ fieldWidth (getD ms (left - 1) 0) (getD os (left - 1) 0)) where
+        later-left : Left s (frontOf ms os d (rest / getD ms (left - 1) 0) (left - 1) ++ (d ∷ lastDigits width (rest % getD ms (left - 1) 0 + getD os (left - 1) 0))) end place entry buffer
+        later-left =
+            rw (e, ← field-digits (rest % getD ms (left - 1) 0) (getD ms (left - 1) 0) (getD os (left - 1) 0) (later-below h)) (rw (fields-last d rest left h (at .within)) at l)
 
-      pub later-next : (start : ℕ) (after : List ℕ) → 1 < left
-          → Written (d ∷ lastOf ms os rest left) place start buffer after
-          → Left s (frontOf ms os d (rest / getD ms (left - 1) 0) (left - 1)) end start entry after
-      later-next start after h w = left-next s
-          (frontOf ms os d (rest / getD ms (left - 1) 0) (left - 1))
-          (d ∷ lastOf ms os rest left)
-          end place start entry buffer after (rw (fields-last d rest left h (at .within)) at l) w
+        -- there is room for so many digits, whatever they show
+        pub later-room : (x : ℕ) → Room (d ∷ lastDigits width x) place buffer
+        later-room x =
+            let r = left-room s (frontOf ms os d (rest / getD ms (left - 1) 0) (left - 1)) _ end place entry buffer later-left in
+            record { before = omega (arith, r .before, last-length width x, last-length width (rest % getD ms (left - 1) 0 + getD os (left - 1) 0)); within = r .within }
 
-      pub first-room : left ≤ 1 → Room (firstOf ms os rest) place buffer
-      first-room h = rw (fields-first d rest left (at .some) h) at (l .room)
+        pub later-next : (start : ℕ) (after : List ℕ)
+            → Written (d ∷ lastDigits width (rest % getD ms (left - 1) 0 + getD os (left - 1) 0)) place start buffer after
+            → Left s (frontOf ms os d (rest / getD ms (left - 1) 0) (left - 1)) end start entry after
+        later-next start after w = left-next s (frontOf ms os d (rest / getD ms (left - 1) 0) (left - 1)) _ end place start entry buffer after later-left w
 
-      pub first-done : (start : ℕ) (after : List ℕ) → left ≤ 1
-          → Written (firstOf ms os rest) place start buffer after
-          → Written s end start entry after
-      first-done start after h w = left-done s _ end place start entry buffer after (rw (fields-first d rest left (at .some) h) at l) w
+      module _ (h : left ≤ 1) (e : width ≡ fieldWidth (getD ms 0 0) (getD os 0 0)) where
+        first-left : Left s (lastDigits width (rest + getD os 0 0)) end place entry buffer
+        first-left = rw (e, ← field-digits rest (getD ms 0 0) (getD os 0 0) (first-below h)) (rw (fields-first d rest left (at .some) h) at l)
+
+        pub first-room : (x : ℕ) → Room (lastDigits width x) place buffer
+        first-room x =
+            let r = first-left .room in
+            record { before = omega (arith, r .before, last-length width x, last-length width (rest + getD os 0 0)); within = r .within }
+
+        pub first-done : (start : ℕ) (after : List ℕ) → Written (lastDigits width (rest + getD os 0 0)) place start buffer after → Written s end start entry after
+        first-done start after w = left-done s _ end place start entry buffer after first-left w
 
   pub fields-start : (d c end : ℕ) (buffer : List ℕ) → Room (fieldsPrint d c ms os) end buffer
       → Left (fieldsPrint d c ms os) (frontOf ms os d c (length ms)) end end buffer buffer

@@ -1,5 +1,5 @@
--- One field: its facts, its width, and its bytes as digits.
-use Prim.Native.Nat.{ℕ, zero, suc, _+_, _-_, _≤_, _<_}
+-- One field: its facts, and its width.
+use Prim.Native.Nat.{ℕ, zero, suc, _+_, _-_, _^_, _≤_, _<_}
 use mathlib.Core.Path.{_≡_}
 use mathlib.Core.Bool.{true}
 use mathlib.Core.List.{List, [], _∷_}
@@ -10,11 +10,15 @@ use native.Mathlib.Nat.{le-trans, mul-le-mul}
 use native.Mathlib.Omega.{arith}
 use Rattle.base.specs.Scans.{all, product}
 use Rattle.base.proofs.Lists.{all-getD, all-head, all-tail, product-pos}
-use Rattle.rules.specs.Limits.{largestOffset}
-use Rattle.rules.specs.Print.{digitCount, lastDigits, fieldWidth, fieldPrint}
-use Rattle.roundtrip.proofs.Length.{field-digits}
-use Rattle.decimal.specs.Writing.{Room, Written}
-use Rattle.field_print.specs.Facts.{FieldFacts, FieldsFacts}
+use Rattle.rules.specs.Limits.{largestP, largestOffset}
+use Rattle.rules.specs.Print.{digitCount, fieldWidth}
+use Rattle.field_print.specs.Facts.{FieldsFacts}
+
+-- what holds of one field
+pub record FieldFacts (m o : ℕ) : Type 0 where
+  pub modulus : 1 ≤ m
+  pub small : m ≤ largestP
+  pub offset : o ≤ largestOffset
 
 -- a modulus is at most the product
 factor-small : (ms : List ℕ) (i : ℕ) → i < length ms → all (λ m. leb 1 m) ms ≡ true → getD ms i 0 ≤ product ms
@@ -32,16 +36,17 @@ field-facts ms os f i l = record {
   offset = leb-true (getD os i 0) largestOffset (all-getD (λ o. leb o largestOffset) os i (f .offsets) (omega (arith, f .one-length)));
 }
 
+module _ (ms os : List ℕ) (f : FieldsFacts ms os) (i : ℕ) (l : i < length ms) where
+  pub offset-small : getD os i 0 ≤ largestOffset
+  offset-small = field-facts ms os f i l .offset
+
+  -- a modulus and an offset fit a word, and are not 0
+  pub sum-fits : (x : ℕ) → x ≤ largestOffset → getD ms i 0 + x < 2 ^ 64
+  sum-fits x h = let g = field-facts ms os f i l in omega arith
+
+  pub sum-some : (x : ℕ) → 1 ≤ getD ms i 0 + x
+  sum-some x = let g = field-facts ms os f i l in omega arith
+
 pub field-width-is : (m o digits : ℕ) → digits ≡ digitCount (m + o - 1) → digits ≡ fieldWidth m o
 unfolding fieldWidth
 field-width-is m o digits e = e
-
-module _ (v m o width : ℕ) (h : v < m) (e : width ≡ fieldWidth m o) where
-  digits-are : fieldPrint v m o ≡ lastDigits width (v + o)
-  digits-are = rw e (field-digits v m o h)
-
-  pub field-room : (end : ℕ) (b : List ℕ) → Room (fieldPrint v m o) end b → Room (lastDigits width (v + o)) end b
-  field-room end b r = rw digits-are at r
-
-  pub field-written : (end start : ℕ) (b exit : List ℕ) → Written (lastDigits width (v + o)) end start b exit → Written (fieldPrint v m o) end start b exit
-  field-written end start b exit w = rw digits-are w

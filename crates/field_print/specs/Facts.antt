@@ -8,13 +8,6 @@ use lib.ListN.{length}
 use Rattle.base.specs.Scans.{all, product}
 use Rattle.rules.specs.Limits.{mostFields, largestOffset, largestP}
 
--- one field: its modulus and its offset
-pub record FieldFacts (m o : ℕ) : Type 0 where
-  pub modulus : 1 ≤ m
-  pub small : m ≤ largestP
-  pub offset : o ≤ largestOffset
-
--- all fields
 pub record FieldsFacts (ms os : List ℕ) : Type 0 where
   pub some : 1 ≤ length ms
   pub few : length ms ≤ mostFields

@@ -2,11 +2,12 @@
 ghost use Prim.Native.Nat.{_≤_, _<_};
 ghost use mathlib.Core.Path.{_≡_};
 ghost use mathlib.Core.List.{_∷_};
+ghost use lib.ListN.{length, getD};
 ghost use Rattle.base.specs.Scans.{product};
-ghost use Rattle.rules.specs.Print.{fieldWidth, fieldPrint, fieldsPrint};
+ghost use Rattle.rules.specs.Print.{lastDigits, fieldWidth, fieldsPrint};
 ghost use Rattle.print_order.specs.Order.{fieldsLength};
 ghost use Rattle.decimal.specs.Writing.{Room, Written};
-ghost use Rattle.field_print.specs.Facts.{FieldFacts, FieldsFacts};
+ghost use Rattle.field_print.specs.Facts.{FieldsFacts};
 
 // How many bytes the fields of any count print to. A field has at most 20 digits and a delimiter.
 pub fn fields_length(moduli: &[u64], offsets: &[u64]) -> usize
@@ -17,7 +18,7 @@ pub fn fields_length(moduli: &[u64], offsets: &[u64]) -> usize
     let mut bytes = moduli.len() - 1;
     let mut i = 0;
     while i < moduli.len() {
-        bytes += field_width(moduli[i], offsets[i]);
+        bytes += field_width(moduli, offsets, i);
         i += 1;
     }
     bytes
@@ -43,52 +44,38 @@ pub fn write_fields(
     while 1 < left {
         left -= 1;
         let modulus = moduli[left];
-        at = write_later_field(
-            delimiter,
-            rest % modulus,
-            modulus,
-            offsets[left],
-            at,
-            buffer,
-        );
+        let offset = offsets[left];
+        let width = field_width(moduli, offsets, left);
+        at = write_later_field(delimiter, rest % modulus + offset, width, at, buffer);
         rest /= modulus;
     }
-    write_field(rest, moduli[0], offsets[0], at, buffer)
+    let width = field_width(moduli, offsets, 0);
+    decimal::write_digits(rest + offsets[0], width, at, buffer)
 }
 
-// A field after the first has the delimiter in front.
+// The digits of a field after the first, with the delimiter in front.
 fn write_later_field(
     delimiter: u8,
-    value: u64,
-    modulus: u64,
-    offset: u64,
+    shown: u64,
+    width: usize,
     end: usize,
     buffer: &mut [u8],
 ) -> usize
-    requires { ⌜ FieldFacts modulus offset ⌝ }
-    requires { ⌜ value < modulus ⌝ }
-    requires { ⌜ Room (delimiter ∷ fieldPrint value modulus offset) end (now buffer) ⌝ }
-    ensures { λ r. ⌜ Written (delimiter ∷ fieldPrint value modulus offset) end r (now (buffer .entry)) (now (buffer .exit)) ⌝ }
+    requires { ⌜ Room (delimiter ∷ lastDigits width shown) end (now buffer) ⌝ }
+    ensures { λ r. ⌜ Written (delimiter ∷ lastDigits width shown) end r (now (buffer .entry)) (now (buffer .exit)) ⌝ }
 {
-    let at = write_field(value, modulus, offset, end, buffer);
+    let at = decimal::write_digits(shown, width, end, buffer);
     decimal::write_byte(delimiter, at, buffer)
 }
 
-fn write_field(value: u64, modulus: u64, offset: u64, end: usize, buffer: &mut [u8]) -> usize
-    requires { ⌜ FieldFacts modulus offset ⌝ }
-    requires { ⌜ value < modulus ⌝ }
-    requires { ⌜ Room (fieldPrint value modulus offset) end (now buffer) ⌝ }
-    ensures { λ r. ⌜ Written (fieldPrint value modulus offset) end r (now (buffer .entry)) (now (buffer .exit)) ⌝ }
-{
-    let width = field_width(modulus, offset);
-    decimal::write_digits(value + offset, width, end, buffer)
-}
-
-// "that of the largest shown number, modulus plus offset less one"
-fn field_width(modulus: u64, offset: u64) -> usize
-    requires { ⌜ FieldFacts modulus offset ⌝ }
-    ensures { λ r. ⌜ r ≡ fieldWidth modulus offset ⌝ }
+// Of field i, the first being field 0: "that of the largest shown number, modulus plus offset less one".
+fn field_width(moduli: &[u64], offsets: &[u64], i: usize) -> usize
+    requires { ⌜ FieldsFacts (now moduli) (now offsets) ⌝ }
+    requires { ⌜ i < length (now moduli) ⌝ }
+    ensures { λ r. ⌜ r ≡ fieldWidth (getD (now (moduli .entry)) i 0) (getD (now (offsets .entry)) i 0) ⌝ }
     ensures { λ r. ⌜ r ≤ 20 ⌝ }
 {
+    let modulus = moduli[i];
+    let offset = offsets[i];
     decimal::digit_count(modulus + offset - 1)
 }

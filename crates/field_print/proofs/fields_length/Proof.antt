@@ -3,7 +3,6 @@ use mathlib.Core.Path.{_≡_}
 use lib.ListN.{length}
 use borrow.Author.Needs.{needs}
 use native.Mathlib.Omega.{arith}
-use Rattle.field_print.proofs.OneField.{field-facts}
 use Rattle.field_print.proofs.Widths.{bytesBefore, widths-start, widths-next, widths-done}
 use Rattle.field_print.proofs.fields_length.Statement.{statement}
 use Rattle.field_print.proofs.fields_length.Tie as tie
@@ -22,11 +21,7 @@ fields-length-spec =
     μ-loop
     (λ c. omega arith)
     (λ c. (omega arith, search (widths-start, needs), omega arith))
-    (λ c. omega arith)
-    (λ c. omega arith)
-    (λ c. omega arith)
-    (λ c. omega arith)
-    (λ c κs. search (field-facts, needs))
+    (λ c κs. (search needs, search needs))
     (λ c. omega arith)
     (λ c. omega arith)
     (λ c. omega arith)

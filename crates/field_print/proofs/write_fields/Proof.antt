@@ -2,8 +2,7 @@ use Rattle.rules.specs.Print.{fieldsPrint}
 use Rattle.decimal.proofs.RightToLeft.{Left}
 use borrow.Author.Needs.{needs}
 use native.Mathlib.Omega.{arith}
-use Rattle.field_print.proofs.OneField.{field-facts}
-use Rattle.field_print.proofs.LastToFirst.{At, frontOf, at-last, at-next, later-facts, later-modulus, later-below, first-below, fields-start, later-room, later-next, first-room, first-done}
+use Rattle.field_print.proofs.LastToFirst.{At, frontOf, at-last, at-next, later-modulus, later-offset, later-fits, first-fits, fields-start, later-room, later-next, first-room, first-done}
 use Rattle.field_print.proofs.write_fields.Statement.{statement}
 use Rattle.field_print.proofs.write_fields.Tie as tie
 
@@ -23,15 +22,18 @@ write-fields-spec =
     (λ c. omega arith)
     (λ c. omega arith)
     (λ c. omega arith)
+    (λ c. omega arith)
+    (λ c. omega arith)
+    (λ c κs. (search needs, omega arith))
     (λ c. search (later-modulus, needs))
-    (λ c. omega arith)
-    (λ c. omega arith)
-    (λ c κs. (search (later-facts, needs), (search (later-below, needs), search (later-room, needs))))
+    (λ c. search (later-fits, later-offset, needs))
+    (λ c κs. search (later-room, needs))
     (λ c. search (later-modulus, needs))
     (λ c. omega arith)
     (λ c. (search (at-next, needs), search (later-next, needs)))
+    (λ c κs. (search needs, omega arith))
     (λ c. omega arith)
-    (λ c. omega arith)
-    (λ c κs. (search (field-facts, needs), (search (first-below, needs), search (first-room, needs))))
+    (λ c. search (first-fits, needs))
+    (λ c κs. search (first-room, needs))
     (λ c. search needs)
     (λ c. search (first-done, needs)))
