@@ -5,11 +5,15 @@ use mathlib.Core.List.{List}
 use lib.ListN.{length}
 use native.Mathlib.Omega.{arith}
 use borrow.Author.Tests.{le-leb, lt-leb}
+use Rattle.base.specs.Scans.{product}
 use Rattle.rules.specs.declared.PrintAnswer.the-variants as Prints
 use Rattle.rules.specs.Answer.{numbered, unless}
 use Rattle.rules.specs.Print.{fieldsPrint, fitting, lengthPrinted, bufferAfter}
+use Rattle.roundtrip.specs.Fields.{AllFields}
+use Rattle.print_order.specs.Order.{fieldsLength}
 use Rattle.decimal.specs.Writing.{Room, Written}
 use Rattle.decimal.proofs.RightToLeft.{put-front}
+use Rattle.field_print.proofs.Widths.{print-length}
 use Rattle.buffer_print.specs.Printed.{Printed}
 
 module _ (s : List ℕ) (n : ℕ) (long : n ≡ length s) (room : ℕ) where
@@ -30,9 +34,12 @@ module _ (s : List ℕ) (n : ℕ) (long : n ≡ length s) (room : ℕ) where
       record { answers = rw short; bytes = rw short }
 
 -- the fields alone
-module _ (ms os : List ℕ) (d c n : ℕ) (long : n ≡ length (fieldsPrint d c ms os)) where
-  pub fields-room : (b : List ℕ) → n ≤ length b → Room (fieldsPrint d c ms os) n b
-  fields-room b h = record { before = omega arith; within = h }
+module _ (ms os : List ℕ) (f : AllFields ms os) (c : ℕ) (below : c < product ms) (n : ℕ) (e : n ≡ fieldsLength ms os) (d : ℕ) where
+  long : n ≡ length (fieldsPrint d c ms os)
+  long = print-length ms os f d c n below e
+
+  pub fields-room : (end : ℕ) (b : List ℕ) → n ≤ end → end ≤ length b → Room (fieldsPrint d c ms os) end b
+  fields-room end b h k = record { before = omega (arith, long); within = k }
 
   pub fields-fit : (start room : ℕ) (entry exit : List ℕ) → n ≤ room → Written (fieldsPrint d c ms os) n start entry exit
       → Printed (fitting room (fieldsPrint d c ms os)) (Prints.Length n) entry exit

@@ -6,8 +6,8 @@ ghost use lib.ListN.{length};
 ghost use Rattle.base.specs.Scans.{product};
 ghost use Rattle.rules.specs.Limits.{mostPartitions};
 ghost use Rattle.rules.specs.Print.{digitCount, fitting, padded, fieldsPrint};
+ghost use Rattle.roundtrip.specs.Fields.{AllFields};
 ghost use Rattle.decimal.specs.Writing.{Room, Written};
-ghost use Rattle.field_print.specs.Facts.{FieldsFacts};
 ghost use Rattle.buffer_print.specs.Printed.{Printed};
 use field_print::fields_length;
 use field_print::write_fields;
@@ -21,7 +21,7 @@ pub fn print_fields(
     offsets: &[u64],
     buffer: &mut [u8],
 ) -> PrintAnswer
-    requires { ⌜ FieldsFacts (now moduli) (now offsets) ⌝ }
+    requires { ⌜ AllFields (now moduli) (now offsets) ⌝ }
     requires { ⌜ count < product (now moduli) ⌝ }
     ensures { λ r. ⌜ Printed (fitting (length (now (buffer .entry))) (fieldsPrint delimiter count (now (moduli .entry)) (now (offsets .entry)))) r (now (buffer .entry)) (now (buffer .exit)) ⌝ }
 {
@@ -43,7 +43,7 @@ pub fn print_numbered(
     buffer: &mut [u8],
 ) -> PrintAnswer
     requires { ⌜ partition < mostPartitions ⌝ }
-    requires { ⌜ FieldsFacts (now moduli) (now offsets) ⌝ }
+    requires { ⌜ AllFields (now moduli) (now offsets) ⌝ }
     requires { ⌜ count < product (now moduli) ⌝ }
     ensures { λ r. ⌜ Printed (fitting (length (now (buffer .entry))) (padded 1 (partition + 1) ++ (47 ∷ fieldsPrint delimiter count (now (moduli .entry)) (now (offsets .entry))))) r (now (buffer .entry)) (now (buffer .exit)) ⌝ }
 {

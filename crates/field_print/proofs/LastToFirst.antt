@@ -10,12 +10,12 @@ use Rattle.base.specs.Scans.{product}
 use Rattle.base.proofs.Lists.{product-pos}
 use Rattle.rules.specs.Limits.{largestOffset}
 use Rattle.rules.specs.Print.{lastDigits, fieldWidth, fieldPrint, fieldsPrint}
+use Rattle.roundtrip.specs.Fields.{AllFields}
 use Rattle.roundtrip.proofs.Digits.{last-length}
 use Rattle.roundtrip.proofs.Fields.{print-last}
 use Rattle.roundtrip.proofs.Length.{field-digits}
 use Rattle.decimal.specs.Writing.{Room, Written}
 use Rattle.decimal.proofs.RightToLeft.{Left, left-all, left-room, left-next, left-done}
-use Rattle.field_print.specs.Facts.{FieldsFacts}
 use Rattle.field_print.proofs.Split.{product-one, product-snoc, front-positive, fields-snoc}
 use Rattle.field_print.proofs.OneField.{FieldFacts, field-facts}
 
@@ -36,7 +36,7 @@ pub record At (ms : List ℕ) (rest left : ℕ) : Type 0 where
   pub within : left ≤ length ms
   pub below : rest < product (take left ms)
 
-module _ (ms os : List ℕ) (f : FieldsFacts ms os) where
+module _ (ms os : List ℕ) (f : AllFields ms os) where
   -- of the first `left` fields, the last and those in front of it
   fields-last : (d rest left : ℕ) → 1 < left → left ≤ length ms
       → frontOf ms os d rest left
@@ -48,7 +48,7 @@ module _ (ms os : List ℕ) (f : FieldsFacts ms os) where
       let long : length (take i ms) ≡ i = length-take-le i ms (omega arith) in
       let long' : length (take i os) ≡ i = length-take-le i os (omega arith) in
       rw (before, take-suc ms i 0 l, take-suc os i 0 (omega arith))
-      (fields-snoc d rest (take i ms) (take i os) (getD ms i 0) (getD os i 0) (long' ∙ sym long) (omega arith) (front-positive ms i (product-pos ms (f .moduli))) (field-facts ms os f i l .modulus))
+      (fields-snoc d rest (take i ms) (take i os) (getD ms i 0) (getD os i 0) (long' ∙ sym long) (omega arith) (front-positive ms i (product-pos ms (f .facts .moduli))) (field-facts ms os (f .facts) i l .modulus))
 
   fields-first : (d rest left : ℕ) → 1 ≤ left → left ≤ 1 → frontOf ms os d rest left ≡ firstOf ms os rest
   fields-first d rest left h l =
@@ -63,7 +63,7 @@ module _ (ms os : List ℕ) (f : FieldsFacts ms os) where
 
   module _ (rest left : ℕ) (at : At ms rest left) where
     later-facts : 1 < left → FieldFacts (getD ms (left - 1) 0) (getD os (left - 1) 0)
-    later-facts h = field-facts ms os f (left - 1) (omega arith)
+    later-facts h = field-facts ms os (f .facts) (left - 1) (omega arith)
 
     pub later-modulus : 1 < left → 1 ≤ getD ms (left - 1) 0
     later-modulus h = later-facts h .modulus
@@ -84,7 +84,7 @@ module _ (ms os : List ℕ) (f : FieldsFacts ms os) where
     later-fits h x k = let g = later-facts h in omega (arith, later-below h)
 
     pub first-fits : left ≤ 1 → rest + getD os 0 0 < 2 ^ 64
-    first-fits h = let g = field-facts ms os f 0 (f .some) in omega (arith, first-below h)
+    first-fits h = let g = field-facts ms os (f .facts) 0 (f .some) in omega (arith, first-below h)
 
     pub at-next : 1 < left → At ms (rest / getD ms (left - 1) 0) (left - 1)
     at-next h =

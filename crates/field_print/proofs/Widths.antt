@@ -7,9 +7,9 @@ use native.Mathlib.Omega.{arith}
 use Rattle.base.specs.Scans.{sumBelow, product}
 use Rattle.base.proofs.Scans.{sum-start, sum-next}
 use Rattle.rules.specs.Print.{fieldWidth, fieldsPrint}
+use Rattle.roundtrip.specs.Fields.{AllFields}
 use Rattle.print_order.specs.Order.{fieldsLength}
 use Rattle.print_order.proofs.Lengths.{fields-length}
-use Rattle.field_print.specs.Facts.{FieldsFacts}
 
 -- the widths of the first i fields, and the delimiters between all fields
 abbrev pub bytesBefore : List ℕ → List ℕ → ℕ → ℕ
@@ -27,6 +27,5 @@ module _ (ms os : List ℕ) where
   widths-done i bytes e h l = let n : i ≡ length ms = omega arith in rw (e, n)
 
   -- whatever the count and the delimiter
-  pub print-length : FieldsFacts ms os → (d c n : ℕ) → c < product ms → n ≡ fieldsLength ms os → n ≡ length (fieldsPrint d c ms os)
-  print-length f d c n h e =
-      e ∙ sym (fields-length d c ms os (f .some) (record { one-length = sym (f .one-length); moduli = f .moduli; offsets = f .offsets; in-range = f .small }) h)
+  pub print-length : AllFields ms os → (d c n : ℕ) → c < product ms → n ≡ fieldsLength ms os → n ≡ length (fieldsPrint d c ms os)
+  print-length a d c n h e = e ∙ sym (fields-length d c ms os (a .some) (a .facts) h)

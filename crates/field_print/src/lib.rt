@@ -5,13 +5,13 @@ ghost use mathlib.Core.List.{_∷_};
 ghost use lib.ListN.{length, getD};
 ghost use Rattle.base.specs.Scans.{product};
 ghost use Rattle.rules.specs.Print.{lastDigits, fieldWidth, fieldsPrint};
+ghost use Rattle.roundtrip.specs.Fields.{AllFields};
 ghost use Rattle.print_order.specs.Order.{fieldsLength};
 ghost use Rattle.decimal.specs.Writing.{Room, Written};
-ghost use Rattle.field_print.specs.Facts.{FieldsFacts};
 
 // How many bytes the fields of any count print to. A field has at most 20 digits and a delimiter.
 pub fn fields_length(moduli: &[u64], offsets: &[u64]) -> usize
-    requires { ⌜ FieldsFacts (now moduli) (now offsets) ⌝ }
+    requires { ⌜ AllFields (now moduli) (now offsets) ⌝ }
     ensures { λ r. ⌜ r ≡ fieldsLength (now (moduli .entry)) (now (offsets .entry)) ⌝ }
     ensures { λ r. ⌜ r ≤ 210 ⌝ }
 {
@@ -33,7 +33,7 @@ pub fn write_fields(
     end: usize,
     buffer: &mut [u8],
 ) -> usize
-    requires { ⌜ FieldsFacts (now moduli) (now offsets) ⌝ }
+    requires { ⌜ AllFields (now moduli) (now offsets) ⌝ }
     requires { ⌜ count < product (now moduli) ⌝ }
     requires { ⌜ Room (fieldsPrint delimiter count (now moduli) (now offsets)) end (now buffer) ⌝ }
     ensures { λ r. ⌜ Written (fieldsPrint delimiter count (now (moduli .entry)) (now (offsets .entry))) end r (now (buffer .entry)) (now (buffer .exit)) ⌝ }
@@ -70,7 +70,7 @@ fn write_later_field(
 
 // Of field i, the first being field 0: "that of the largest shown number, modulus plus offset less one".
 fn field_width(moduli: &[u64], offsets: &[u64], i: usize) -> usize
-    requires { ⌜ FieldsFacts (now moduli) (now offsets) ⌝ }
+    requires { ⌜ AllFields (now moduli) (now offsets) ⌝ }
     requires { ⌜ i < length (now moduli) ⌝ }
     ensures { λ r. ⌜ r ≡ fieldWidth (getD (now (moduli .entry)) i 0) (getD (now (offsets .entry)) i 0) ⌝ }
     ensures { λ r. ⌜ r ≤ 20 ⌝ }

@@ -13,7 +13,7 @@ use Rattle.rules.specs.Layout.{moduliOf, offsetsOf, productOf}
 use Rattle.rules.specs.Partitions.{Partitions, totalOf}
 use Rattle.rules.specs.Print.{partitionOf, decodedIn}
 use Rattle.layouts.proofs.Slots.{slots-within}
-use Rattle.field_print.specs.Facts.{FieldsFacts}
+use Rattle.roundtrip.specs.Fields.{AllFields}
 use Rattle.decode.proofs.Accepted.{count-below}
 
 -- the arrays of a layout in code have ten slots
@@ -23,16 +23,14 @@ Slots s = length (map (λ (v : ℕ). v) s) ≡ mostFields
 pub slots-count : (l : Layout) → LayoutFacts l → (s : List ℕ) → Slots s → l .n ≡ length (take (l .n) s)
 slots-count l f s slots = sym (length-take-le (l .n) s (slots-within s (l .n) mostFields slots (f .few-fields)))
 
-pub fields-facts : (l : Layout) → Slots (l .moduli) → Slots (l .offsets) → LayoutFacts l → FieldsFacts (moduliOf l) (offsetsOf l)
+pub all-fields : (l : Layout) → Slots (l .moduli) → Slots (l .offsets) → LayoutFacts l → AllFields (moduliOf l) (offsetsOf l)
 unfolding productOf
-fields-facts l m o f =
+all-fields l m o f =
+    let count = slots-count l f (l .moduli) m in
     record {
-      some = omega (arith, slots-count l f (l .moduli) m);
-      few = omega (arith, slots-count l f (l .moduli) m);
-      one-length = sym (slots-count l f (l .offsets) o) ∙ slots-count l f (l .moduli) m;
-      moduli = f .moduli;
-      offsets = f .offsets;
-      small = f .product;
+      some = omega arith;
+      few = omega arith;
+      facts = record { one-length = sym count ∙ slots-count l f (l .offsets) o; moduli = f .moduli; offsets = f .offsets; in-range = f .product };
     }
 
 pub product-below : (l : Layout) (c : ℕ) → c < productOf l → c < product (moduliOf l)

@@ -1,12 +1,11 @@
--- What two printing calls leave at the front of their buffers: texts of one length, in the order of what was printed.
-use Prim.Native.Nat.{_+_}
+-- What two printing calls leave at the front of their buffers is in the order of what was printed.
 use mathlib.Core.Path.{sym, ap, _∙_}
 use lib.ListN.{length}
-use Rattle.rules.specs.Print.{printCount, printStamp}
+use Rattle.rules.specs.Print.{printCount}
 use Rattle.roundtrip.proofs.Buffers.{front-length, count-front, stamp-front}
-use Rattle.print_order.specs.Order.{countLength, stampLength, CountCallsInOrder, StampCallsInOrder}
+use Rattle.print_order.specs.Order.{CountCallsInOrder, StampCallsInOrder}
 use Rattle.print_order.proofs.Counts.{counts-one-length, counts-in-order}
-use Rattle.print_order.proofs.Stamps.{stamps-one-length, stamps-in-order}
+use Rattle.print_order.proofs.Stamps.{stamps-by-length}
 
 pub count-calls-in-order : CountCallsInOrder
 count-calls-in-order l t c d b b' n n' h h' =
@@ -19,13 +18,7 @@ count-calls-in-order l t c d b b' n n' h h' =
     )
 
 pub stamp-calls-in-order : StampCallsInOrder
-unfolding stampLength
-stamp-calls-in-order l p t e f b b' n n' same h h' =
+stamp-calls-in-order l p t e f b b' n n' h h' =
     let w = stamp-front l p e b n h in
     let w' = stamp-front l p f b' n' h' in
-    let ok = w .accepted in
-    let good = w .partitions in (
-      front-length (printStamp l p e (length b)) b n h ∙ ap length (w .print) ∙ stamps-one-length l p t ok good e (w .within) ∙ ap (λ k. k + 1 + countLength l) same
-          ∙ sym (front-length (printStamp l p f (length b')) b' n' h' ∙ ap length (w' .print) ∙ stamps-one-length l p t ok good f (w' .within)),
-      rw (w .print, w' .print) (stamps-in-order l p t ok good e f (w .within) (w' .within) same),
-    )
+    rw (w .print, w' .print) (stamps-by-length l p t (w .accepted) (w .partitions) e f (w .within) (w' .within))

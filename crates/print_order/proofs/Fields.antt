@@ -14,7 +14,8 @@ use Rattle.base.proofs.Tests.{by-test}
 use Rattle.rules.specs.Print.{lastDigits, fieldWidth, fieldPrint, fieldsPrint}
 use Rattle.roundtrip.proofs.Digits.{digits-enough, last-length}
 use Rattle.roundtrip.proofs.Fields.{print-last, print-more}
-use Rattle.roundtrip.proofs.Split.{FieldsFacts, first-facts, quotient-below}
+use Rattle.roundtrip.specs.Fields.{FieldsFacts}
+use Rattle.roundtrip.proofs.Split.{first-facts, quotient-below}
 use Rattle.roundtrip.proofs.Length.{field-digits, field-length}
 use Rattle.print_order.specs.Order.{sortsBefore}
 use Rattle.print_order.proofs.Bytes.{sorts-less, sorts-rest, sorts-front, sorts-same}

@@ -9,7 +9,8 @@ use Rattle.base.specs.Scans.{sumBelow, product}
 use Rattle.base.proofs.Scans.{sum-first}
 use Rattle.rules.specs.Print.{fieldWidth, fieldsPrint}
 use Rattle.roundtrip.proofs.Fields.{print-last, print-more}
-use Rattle.roundtrip.proofs.Split.{FieldsFacts, first-facts, quotient-below}
+use Rattle.roundtrip.specs.Fields.{FieldsFacts}
+use Rattle.roundtrip.proofs.Split.{first-facts, quotient-below}
 use Rattle.roundtrip.proofs.Length.{field-length}
 use Rattle.print_order.specs.Order.{fieldsLength}
 

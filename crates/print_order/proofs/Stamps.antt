@@ -1,11 +1,11 @@
 -- Stamps: those of one partition as their counts, those of two by their partitions.
 use Prim.Native.Nat.{ℕ, suc, _+_, _≤_, _<_}
 use mathlib.Core.Path.{_≡_, refl, sym, ap, _∙_}
-use mathlib.Core.Bool.{true, _&&_, _||_}
+use mathlib.Core.Bool.{true}
 use mathlib.Core.List.{List, _∷_, _++_}
-use lib.Dec.{ltb, eqb}
+use lib.Dec.{leb, ltb}
 use lib.ListN.{length, length-append}
-use borrow.Author.Tests.{lt-ltb, le-ltb, eq-eqb, ne-eqb, ltb-true, ltb-false}
+use borrow.Author.Tests.{lt-ltb, le-ltb, eq-eqb, ne-eqb, ltb-true, ltb-false, leb-true, leb-false}
 use native.Mathlib.Nat.{max-eq-right}
 use native.Mathlib.Omega.{arith}
 use Rattle.base.proofs.Tests.{by-test, leb-same}
@@ -15,10 +15,10 @@ use Rattle.rules.specs.Partitions.{Partitions, lengthsBefore, partitionsOk, tot
 use Rattle.rules.proofs.Accepted.{partitions-facts}
 use Rattle.rules.specs.Print.{digitCount, lastDigits, padded, countPrint, partitionOf, decodedIn, stampPrint}
 use Rattle.roundtrip.specs.RoundTrip.{TenSlots}
-use Rattle.roundtrip.proofs.Digits.{digits-some, digits-enough, last-length, padded-length}
+use Rattle.roundtrip.proofs.Digits.{digits-some, digits-grow, digits-enough, last-length, padded-length}
 use Rattle.roundtrip.proofs.Encoded.{Lies, lies, before-up}
 use Rattle.roundtrip.proofs.Ends.{stamp-count-below-p}
-use Rattle.print_order.specs.Order.{sortsBefore, stampLength, StampsOneLength, StampsInOrder, StampsAcross}
+use Rattle.print_order.specs.Order.{sortsBefore, shorterOrBefore, stampLength, StampsOneLength, StampsInOrder, StampsByLength, StampsByNumber}
 use Rattle.print_order.proofs.Bytes.{sorts-rest, sorts-front, sorts-same, sorts-one-way}
 use Rattle.print_order.proofs.Fields.{digits-sort}
 use Rattle.print_order.proofs.Counts.{counts-one-length, counts-in-order}
@@ -33,12 +33,6 @@ numbers-sort x y s t less same =
     (digits-sort (digitCount y) x y less (digits-enough y)))
 
 module _ (l : Layout) (p : Partitions) (t : TenSlots l) (ok : layoutOk l ≡ true) (good : partitionsOk (productOf l) p ≡ true) where
-  one-length : (e : ℕ) → e ≤ totalOf p → length (stampPrint l p e) ≡ stampLength l (partitionOf p e)
-  unfolding stampPrint stampLength
-  one-length e h =
-      rw (length-append, padded-length, counts-one-length l t ok _ (stamp-count-below-p (productOf l) p good e h))
-      (omega (arith, digits-some (partitionOf p e + 1)))
-
   place : (e : ℕ) → e ≤ totalOf p → Lies p e (partitionOf p e)
   place e h = lies p e (partitions-facts (productOf l) p good .some) h
 
@@ -74,33 +68,56 @@ module _ (l : Layout) (p : Partitions) (t : TenSlots l) (ok : layoutOk l ≡ tru
       (λ y. less (ltb-true _ _ y))
       (λ n. by-test (ltb (partitionOf p f) (partitionOf p e)) (λ y. more (ltb-true _ _ y)) (λ m. same (omega (arith, ltb-false (partitionOf p e) (partitionOf p f) n, ltb-false (partitionOf p f) (partitionOf p e) m))))
 
-  in-order : (e f : ℕ) → e ≤ totalOf p → f ≤ totalOf p → digitCount (partitionOf p e + 1) ≡ digitCount (partitionOf p f + 1) → sortsBefore (stampPrint l p e) (stampPrint l p f) ≡ ltb e f
-  unfolding stampPrint
-  in-order e f h k digits =
-      by-partition e f
-      (λ less. rw (lt-ltb e f (earlier e f h k less)) (numbers-sort _ _ _ _ (omega arith) digits))
-      (λ same. in-one e f h k same)
-      (λ more. rw (le-ltb e f (omega (arith, earlier f e k h more))) (sorts-one-way _ _ (numbers-sort _ _ _ _ (omega arith) (sym digits))))
-
-  across : (e f : ℕ) → e ≤ totalOf p → f ≤ totalOf p
-      → (ltb (partitionOf p e) (partitionOf p f) || (eqb (partitionOf p e) (partitionOf p f) && sortsBefore (stampPrint l p e) (stampPrint l p f))) ≡ ltb e f
-  across e f h k =
-      by-partition e f
-      (λ less. rw (lt-ltb i j less, lt-ltb e f (earlier e f h k less)))
-      (λ same. rw (le-ltb i j (omega arith), eq-eqb i j same) (in-one e f h k same))
-      (λ more. rw (le-ltb i j (omega arith), ne-eqb i j (λ s. omega arith), le-ltb e f (omega (arith, earlier f e k h more))))
-    where
-      i : ℕ
-      i = partitionOf p e
-
-      j : ℕ
-      j = partitionOf p f
-
 pub stamps-one-length : StampsOneLength
-stamps-one-length = one-length
+unfolding stampPrint stampLength
+stamps-one-length l p t ok good e h =
+    rw (length-append, padded-length, counts-one-length l t ok _ (stamp-count-below-p (productOf l) p good e h))
+    (omega (arith, digits-some (partitionOf p e + 1)))
 
 pub stamps-in-order : StampsInOrder
-stamps-in-order = in-order
+unfolding stampPrint
+stamps-in-order l p t ok good e f h k digits =
+    by-partition l p t ok good e f
+    (λ less. rw (lt-ltb e f (earlier l p t ok good e f h k less)) (numbers-sort _ _ _ _ (omega arith) digits))
+    (λ same. in-one l p t ok good e f h k same)
+    (λ more. rw (le-ltb e f (omega (arith, earlier l p t ok good f e k h more))) (sorts-one-way _ _ (numbers-sort _ _ _ _ (omega arith) (sym digits))))
 
-pub stamps-across : StampsAcross
-stamps-across = across
+-- the shorter stamp is of an earlier partition
+shorter-earlier : (l : Layout) (p : Partitions) → TenSlots l → layoutOk l ≡ true → partitionsOk (productOf l) p ≡ true → (e f : ℕ) → e ≤ totalOf p → f ≤ totalOf p
+    → length (stampPrint l p e) < length (stampPrint l p f) → e < f
+unfolding stampLength
+shorter-earlier l p t ok good e f h k less =
+    by-test (leb (partitionOf p f) (partitionOf p e))
+    (λ y. absurd (omega (arith, stamps-one-length l p t ok good e h, stamps-one-length l p t ok good f k, digits-grow (partitionOf p f + 1) (partitionOf p e + 1) (omega (arith, leb-true (partitionOf p f) (partitionOf p e) y)))))
+    (λ n. earlier l p t ok good e f h k (leb-false (partitionOf p f) (partitionOf p e) n))
+
+pub stamps-by-length : StampsByLength
+unfolding shorterOrBefore stampLength
+stamps-by-length l p t ok good e f h k =
+    by-test (ltb i j)
+    (λ y. rw (y, lt-ltb e f (shorter-earlier l p t ok good e f h k (ltb-true i j y))))
+    (λ n. by-test (ltb j i)
+    (λ y. let more = ltb-true j i y in
+    rw (n, ne-eqb i j (λ s. omega arith), le-ltb e f (omega (arith, shorter-earlier l p t ok good f e k h more))))
+    (λ m. let same : i ≡ j = omega (arith, ltb-false i j n, ltb-false j i m) in
+    rw (n, eq-eqb i j same)
+    (stamps-in-order l p t ok good e f h k (omega (arith, stamps-one-length l p t ok good e h, stamps-one-length l p t ok good f k)))))
+  where
+    i : ℕ
+    i = length (stampPrint l p e)
+
+    j : ℕ
+    j = length (stampPrint l p f)
+
+pub stamps-by-number : StampsByNumber
+stamps-by-number l p t ok good e f h k =
+    by-partition l p t ok good e f
+    (λ less. rw (lt-ltb i j less, lt-ltb e f (earlier l p t ok good e f h k less)))
+    (λ same. rw (le-ltb i j (omega arith), eq-eqb i j same) (in-one l p t ok good e f h k same))
+    (λ more. rw (le-ltb i j (omega arith), ne-eqb i j (λ s. omega arith), le-ltb e f (omega (arith, earlier l p t ok good f e k h more))))
+  where
+    i : ℕ
+    i = partitionOf p e
+
+    j : ℕ
+    j = partitionOf p f

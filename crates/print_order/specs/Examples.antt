@@ -8,17 +8,17 @@ use Rattle.rules.specs.Computing.{computing}
 use Rattle.rules.specs.Examples.{bytes, layoutA}
 use Rattle.rules.specs.Partitions.{Partitions, partitions}
 use Rattle.rules.specs.Print.{stampPrint}
-use Rattle.rules.specs.CallEdges.{one}
+use Rattle.rules.specs.CallEdges.{oneField}
 use Rattle.print_order.specs.Order.{sortsBefore, fieldsLength, countLength, stampLength}
 
-unfoldable pub texts : String → String → Bool
-texts s t = sortsBefore (bytes s) (bytes t)
+unfoldable pub standsBefore : String → String → Bool
+standsBefore s t = sortsBefore (bytes s) (bytes t)
 
 -- the first byte that differs, equal texts, a text that goes on; `9` stands after `10`, which the width mends
 pub byte-order :
-    (texts "09" "10" ∷ texts "10" "09" ∷ texts "09" "09" ∷ texts "1" "10" ∷ texts "10" "1" ∷ texts "" "0" ∷ texts "" "" ∷ texts "9" "10" ∷ [])
+    (standsBefore "09" "10" ∷ standsBefore "10" "09" ∷ standsBefore "09" "09" ∷ standsBefore "1" "10" ∷ standsBefore "10" "1" ∷ standsBefore "" "0" ∷ standsBefore "" "" ∷ standsBefore "9" "10" ∷ [])
     ≡ (true ∷ false ∷ false ∷ true ∷ false ∷ true ∷ false ∷ false ∷ [])
-unfolding computing sortsBefore bytes texts
+unfolding computing sortsBefore bytes standsBefore
 byte-order = refl
 
 -- ten partitions 0..1
@@ -34,6 +34,6 @@ unfolding computing sortsBefore fieldsLength countLength stampLength bytes layou
 ninth-and-tenth = (refl, refl, refl)
 
 -- modulus 10: a byte without an offset, two with offset 1
-pub lengths : (map (λ o. countLength (one 10 o)) (0 ∷ 1 ∷ []) ≡ (1 ∷ 2 ∷ [])) × (countLength layoutA ≡ 4)
-unfolding computing fieldsLength countLength layoutA one
+pub lengths : (map (λ o. countLength (oneField 10 o)) (0 ∷ 1 ∷ []) ≡ (1 ∷ 2 ∷ [])) × (countLength layoutA ≡ 4)
+unfolding computing fieldsLength countLength layoutA oneField
 lengths = (refl, refl)

@@ -20,6 +20,10 @@ sortsBefore s [] = false
 sortsBefore [] (b ∷ t) = true
 sortsBefore (a ∷ s) (b ∷ t) = ltb a b || (eqb a b && sortsBefore s t)
 
+-- the shorter text first, and texts of one length in byte order
+unfoldable pub shorterOrBefore : List ℕ → List ℕ → Bool
+shorterOrBefore s t = ltb (length s) (length t) || (eqb (length s) (length t) && sortsBefore s t)
+
 -- how many bytes the fields print to: the width of each, and a delimiter between two
 unfoldable pub fieldsLength : List ℕ → List ℕ → ℕ
 fieldsLength ms os = sumBelow (λ i. fieldWidth (getD ms i 0) (getD os i 0)) (length ms) + (length ms - 1)
@@ -48,15 +52,21 @@ StampsOneLength =
     (l : Layout) (p : Partitions) → TenSlots l → layoutOk l ≡ true → partitionsOk (productOf l) p ≡ true → (e : ℕ) → e ≤ totalOf p
     → length (stampPrint l p e) ≡ stampLength l (partitionOf p e)
 
--- and the smaller encoded count prints first; so it does where the numbers of two partitions have equally many digits, as those of up to nine have
+-- Where the numbers of two partitions have equally many digits, so always within one partition, the smaller encoded count prints first.
 abbrev pub StampsInOrder : Type 0
 StampsInOrder =
     (l : Layout) (p : Partitions) → TenSlots l → layoutOk l ≡ true → partitionsOk (productOf l) p ≡ true → (e f : ℕ) → e ≤ totalOf p → f ≤ totalOf p
     → digitCount (partitionOf p e + 1) ≡ digitCount (partitionOf p f + 1) → sortsBefore (stampPrint l p e) (stampPrint l p f) ≡ ltb e f
 
--- Stamps of any partitions are in the order of their encoded counts if they are sorted by the partition's number and then as text.
-abbrev pub StampsAcross : Type 0
-StampsAcross =
+-- Any stamps: the shorter one has the smaller encoded count, and of two as long the one that stands before the other.
+abbrev pub StampsByLength : Type 0
+StampsByLength =
+    (l : Layout) (p : Partitions) → TenSlots l → layoutOk l ≡ true → partitionsOk (productOf l) p ≡ true → (e f : ℕ) → e ≤ totalOf p → f ≤ totalOf p
+    → shorterOrBefore (stampPrint l p e) (stampPrint l p f) ≡ ltb e f
+
+-- Any stamps, by the partition's number and then as text, as `sort -t / -k 1,1n -k 2` has them.
+abbrev pub StampsByNumber : Type 0
+StampsByNumber =
     (l : Layout) (p : Partitions) → TenSlots l → layoutOk l ≡ true → partitionsOk (productOf l) p ≡ true → (e f : ℕ) → e ≤ totalOf p → f ≤ totalOf p
     → (ltb (partitionOf p e) (partitionOf p f) || (eqb (partitionOf p e) (partitionOf p f) && sortsBefore (stampPrint l p e) (stampPrint l p f))) ≡ ltb e f
 
@@ -69,6 +79,6 @@ CountCallsInOrder =
 
 abbrev pub StampCallsInOrder : Type 0
 StampCallsInOrder =
-    (l : Layout) (p : Partitions) → TenSlots l → (e f : ℕ) (b b' : List ℕ) (n n' : ℕ) → digitCount (partitionOf p e + 1) ≡ digitCount (partitionOf p f + 1)
+    (l : Layout) (p : Partitions) → TenSlots l → (e f : ℕ) (b b' : List ℕ) (n n' : ℕ)
     → lengthPrinted (printStamp l p e (length b)) ≡ answer n → lengthPrinted (printStamp l p f (length b')) ≡ answer n'
-    → (n ≡ n') × (sortsBefore (take n (bufferAfter (printStamp l p e (length b)) b)) (take n' (bufferAfter (printStamp l p f (length b')) b')) ≡ ltb e f)
+    → shorterOrBefore (take n (bufferAfter (printStamp l p e (length b)) b)) (take n' (bufferAfter (printStamp l p f (length b')) b')) ≡ ltb e f

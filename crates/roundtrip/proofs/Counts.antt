@@ -14,10 +14,11 @@ use Rattle.rules.specs.Layout.{moduliOf, offsetsOf, productOf, layoutOk}
 use Rattle.rules.proofs.Accepted.{layout-facts}
 use Rattle.rules.specs.Text.{fieldsCount, bytesCount, parseText, readText}
 use Rattle.rules.specs.Print.{fieldsPrint, countPrint}
+use Rattle.roundtrip.specs.Fields.{FieldsFacts}
 use Rattle.roundtrip.specs.RoundTrip.{TenSlots, CountReadsBack, CountPrintsShort, longestCountPrint}
 use Rattle.roundtrip.proofs.Fields.{Separates, delimiter-separates, fields-printed, fields-allowed}
-use Rattle.roundtrip.proofs.Split.{FieldsFacts, each-printed, sum-printed, length-printed, first-printed}
-use Rattle.roundtrip.proofs.Length.{fields-length}
+use Rattle.roundtrip.proofs.Split.{each-printed, sum-printed, length-printed, first-printed}
+use Rattle.roundtrip.proofs.Length.{fields-short}
 
 -- the fields of an accepted layout
 pub layout-fields : (l : Layout) → TenSlots l → layoutOk l ≡ true → FieldsFacts (moduliOf l) (offsetsOf l)
@@ -44,7 +45,7 @@ fields-readable d w c (m ∷ ms) [] some few f h = absurd (omega (arith, f .one-
 fields-readable d w c (m ∷ ms) (o ∷ os) some few f h =
     let same : length ms ≡ length os = omega (arith, f .one-length) in
     record {
-      short = omega (arith, fields-length d c m ms o os f h);
+      short = omega (arith, fields-short d c m ms o os f h);
       counted =
           rw (
             fields-allowed d w c m ms o os same,

@@ -13,9 +13,10 @@ use Rattle.base.specs.Scans.{product}
 use Rattle.base.proofs.Tests.{by-test}
 use Rattle.rules.specs.Limits.{largestOffset, largestP}
 use Rattle.rules.specs.Print.{digitsUpTo, digitCount, lastDigits, padded, fieldWidth, fieldPrint, fieldsPrint}
+use Rattle.roundtrip.specs.Fields.{FieldsFacts}
 use Rattle.roundtrip.proofs.Digits.{digits-needed, digits-grow, pow-order, last-length}
 use Rattle.roundtrip.proofs.Fields.{print-last, print-more}
-use Rattle.roundtrip.proofs.Split.{FieldsFacts, first-facts, quotient-below}
+use Rattle.roundtrip.proofs.Split.{first-facts, quotient-below}
 
 -- w digits, and the modulus that they ask for
 abbrev Fits : ℕ → ℕ → Type 0
@@ -86,8 +87,8 @@ room d c m (k ∷ ms) o (q ∷ os) f h =
 few-extra : (e : ℕ) → 1_000 * 10 ^ e ≤ largestP + 999 → e ≤ 12
 few-extra e h = let l : e < 13 = pow-order e 13 (omega arith) in omega arith
 
-pub fields-length : (d c m : ℕ) (ms : List ℕ) (o : ℕ) (os : List ℕ) → FieldsFacts (m ∷ ms) (o ∷ os) → c < product (m ∷ ms)
+pub fields-short : (d c m : ℕ) (ms : List ℕ) (o : ℕ) (os : List ℕ) → FieldsFacts (m ∷ ms) (o ∷ os) → c < product (m ∷ ms)
     → length (fieldsPrint d c (m ∷ ms) (o ∷ os)) ≤ 5 * length (m ∷ ms) + 11
-fields-length d c m ms o os f h =
+fields-short d c m ms o os f h =
     let r = room d c m ms o os f h in
     omega (arith, r .short, few-extra (r .extra) (omega (arith, r .asked, f .in-range)))

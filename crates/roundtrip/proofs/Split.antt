@@ -3,27 +3,20 @@ use Prim.Native.Nat.{ℕ, _+_, _*_, _/_, _%_, _≤_, _<_}
 use mathlib.Core.Path.{_≡_, refl}
 use mathlib.Core.Bool.{true}
 use mathlib.Core.List.{List, [], _∷_}
-use lib.Dec.{leb}
 use lib.ListN.{length}
 use borrow.Author.Tests.{le-leb, leb-true}
 use native.Mathlib.Nat.{add-sub-cancel, mod-lt, div-add-mod', div-lt-iff-lt-mul, mul-le-mul}
 use native.Mathlib.Omega.{arith}
-use Rattle.base.specs.Scans.{all, product}
+use Rattle.base.specs.Scans.{product}
 use Rattle.rules.specs.Limits.{largestOffset, largestP, largestField}
 use Rattle.rules.specs.declared.Reading.{Reading}
 use Rattle.rules.specs.Answer.{Answer, unless}
 use Rattle.rules.specs.Text.{isPresent, firstPresent, ticksOf, sumOf, notAbove, notBelow, eachField}
 use Rattle.rules.specs.Print.{fieldPrint}
 use Rattle.base.proofs.Lists.{all-head, all-tail, product-pos}
+use Rattle.roundtrip.specs.Fields.{FieldsFacts}
 use Rattle.roundtrip.proofs.Digits.{digitsOf, Prints}
 use Rattle.roundtrip.proofs.Fields.{printedFields, field-prints}
-
--- the moduli and offsets of an accepted layout, or of its later fields
-pub record FieldsFacts (ms os : List ℕ) : Type 0 where
-  pub one-length : length ms ≡ length os
-  pub moduli : all (λ m. leb 1 m) ms ≡ true
-  pub offsets : all (λ o. leb o largestOffset) os ≡ true
-  pub in-range : product ms ≤ largestP
 
 -- what holds of the first field
 pub record FirstFacts (m : ℕ) (ms : List ℕ) (o : ℕ) (os : List ℕ) : Type 0 where

@@ -70,8 +70,8 @@ tens o d =
     }
 
 -- one field of this modulus and offset
-unfoldable pub one : ℕ → ℕ → Layout
-one m o =
+unfoldable pub oneField : ℕ → ℕ → Layout
+oneField m o =
     record {
       n = 1;
       moduli = m ∷ 0 ∷ 0 ∷ 0 ∷ 0 ∷ 0 ∷ 0 ∷ 0 ∷ 0 ∷ 0 ∷ [];
@@ -80,8 +80,8 @@ one m o =
     }
 
 -- two fields: the first of modulus m, the second of modulus k and offset o
-unfoldable pub two : ℕ → ℕ → ℕ → Layout
-two m k o =
+unfoldable pub twoFields : ℕ → ℕ → ℕ → Layout
+twoFields m k o =
     record {
       n = 2;
       moduli = m ∷ k ∷ 0 ∷ 0 ∷ 0 ∷ 0 ∷ 0 ∷ 0 ∷ 0 ∷ 0 ∷ [];
@@ -132,11 +132,11 @@ allowed-number = refl
 
 -- a field and the sum at their limits; fields at and below their offset; 96 bytes and 97, and 4 before 5
 pub reading-edges :
-    (readText (one (10 ^ 15) 1_000) (bytes "1000000000001000") ∷ readText (one (10 ^ 15) 1_000) (bytes "1000000000001001") ∷ readText (tens 1 1) (bytes "1000000000001000.0") ∷ readText (tens 1 1) (bytes "1000000000001001.0") ∷ readText layoutA (bytes "100000000000000.0")
+    (readText (oneField (10 ^ 15) 1_000) (bytes "1000000000001000") ∷ readText (oneField (10 ^ 15) 1_000) (bytes "1000000000001001") ∷ readText (tens 1 1) (bytes "1000000000001000.0") ∷ readText (tens 1 1) (bytes "1000000000001001.0") ∷ readText layoutA (bytes "100000000000000.0")
     ∷ readText layoutA (bytes "100000000000000.1") ∷ readText (tens 1 1) (bytes "12.") ∷ readText (tens 1 1) (bytes "12.0") ∷ readText (tens 1 1) (bytes "12.1")
     ∷ readText layoutA (replicate 96 48) ∷ readText layoutA (replicate 97 48) ∷ readText layoutA (replicate 96 120) ∷ readText layoutA (replicate 97 120) ∷ [])
     ≡ (answer (reading (10 ^ 15)) ∷ refuse 9 ∷ refuse 8 ∷ refuse 9 ∷ answer (reading (10 ^ 15)) ∷ refuse 9 ∷ answer (reading 120) ∷ refuse 8 ∷ answer (reading 120) ∷ answer (reading 0) ∷ refuse 4 ∷ refuse 5 ∷ refuse 4 ∷ [])
-unfolding computing bytes layoutA tens one
+unfolding computing bytes layoutA tens oneField
 reading-edges = refl
 
 -- L from 1 to 96 and at most the message length less 2; its high byte counts
@@ -157,21 +157,21 @@ trailer = refl
 pub print-edges :
     (countBuffer (tens 0 1) 123 (replicate 5 7) ∷ countBuffer (tens 0 2) 123 (replicate 5 7) ∷ countBuffer (tens 0 3) 123 (replicate 5 7)
     ∷ countBuffer (tens 0 4) 123 (replicate 5 7) ∷ countBuffer (tens 0 5) 123 (replicate 5 7) ∷ countBuffer (tens 1 1) 129 (replicate 5 7) ∷ countBuffer (tens 1 1) 120 (replicate 5 7)
-    ∷ countBuffer (two 100 1 0) 3 (replicate 5 7) ∷ countBuffer (two 101 11 0) 58 (replicate 6 7) ∷ countBuffer layoutA 123 (replicate 4 7) ∷ countBuffer layoutA 123 (replicate 3 7) ∷ countBuffer layoutA 999 (replicate 5 7)
+    ∷ countBuffer (twoFields 100 1 0) 3 (replicate 5 7) ∷ countBuffer (twoFields 101 11 0) 58 (replicate 6 7) ∷ countBuffer layoutA 123 (replicate 4 7) ∷ countBuffer layoutA 123 (replicate 3 7) ∷ countBuffer layoutA 999 (replicate 5 7)
     ∷ countBuffer layoutA 1_000 (replicate 5 7) ∷ [])
     ≡ ((bytes "12.3" ++ (7 ∷ [])) ∷ (bytes "12:3" ++ (7 ∷ [])) ∷ (bytes "12-3" ++ (7 ∷ [])) ∷ (bytes "12,3" ++ (7 ∷ [])) ∷ (bytes "12 3" ++ (7 ∷ []))
     ∷ bytes "12.10" ∷ bytes "12.01" ∷ (bytes "03.0" ++ (7 ∷ [])) ∷ bytes "005.03" ∷ bytes "12.3" ∷ replicate 3 7 ∷ (bytes "99.9" ++ (7 ∷ [])) ∷ replicate 5 7 ∷ [])
-unfolding computing countBuffer bytes tens two layoutA
+unfolding computing countBuffer bytes tens twoFields layoutA
 print-edges = refl
 
 -- Request 2: "A field of modulus 10 with offset 1 shows 1 to 10". A modulus of 1 shows its offset alone. The largest shown numbers 9, 10, 99 and 100.
 -- Of two fields each has its own width.
 pub width-edges :
-    (map (countPrint (one 10 1)) (0 ∷ 1 ∷ 2 ∷ 3 ∷ 4 ∷ 5 ∷ 6 ∷ 7 ∷ 8 ∷ 9 ∷ []) ≡ map bytes ("01" ∷ "02" ∷ "03" ∷ "04" ∷ "05" ∷ "06" ∷ "07" ∷ "08" ∷ "09" ∷ "10" ∷ []))
-    × (map (λ o. countPrint (one 1 o) 0) (0 ∷ 9 ∷ 1_000 ∷ []) ≡ map bytes ("0" ∷ "9" ∷ "1000" ∷ []))
-    × ((countPrint (one 9 1) 0 ∷ countPrint (one 2 9) 0 ∷ countPrint (one 90 10) 0 ∷ countPrint (one 91 10) 0 ∷ []) ≡ map bytes ("1" ∷ "09" ∷ "10" ∷ "010" ∷ []))
-    × (map (countPrint (two 2 1_000 1)) (0 ∷ 1_999 ∷ []) ≡ map bytes ("0.0001" ∷ "1.1000" ∷ []))
-unfolding computing bytes one two
+    (map (countPrint (oneField 10 1)) (0 ∷ 1 ∷ 2 ∷ 3 ∷ 4 ∷ 5 ∷ 6 ∷ 7 ∷ 8 ∷ 9 ∷ []) ≡ map bytes ("01" ∷ "02" ∷ "03" ∷ "04" ∷ "05" ∷ "06" ∷ "07" ∷ "08" ∷ "09" ∷ "10" ∷ []))
+    × (map (λ o. countPrint (oneField 1 o) 0) (0 ∷ 9 ∷ 1_000 ∷ []) ≡ map bytes ("0" ∷ "9" ∷ "1000" ∷ []))
+    × ((countPrint (oneField 9 1) 0 ∷ countPrint (oneField 2 9) 0 ∷ countPrint (oneField 90 10) 0 ∷ countPrint (oneField 91 10) 0 ∷ []) ≡ map bytes ("1" ∷ "09" ∷ "10" ∷ "010" ∷ []))
+    × (map (countPrint (twoFields 2 1_000 1)) (0 ∷ 1_999 ∷ []) ≡ map bytes ("0.0001" ∷ "1.1000" ∷ []))
+unfolding computing bytes oneField twoFields
 width-edges = (refl, refl, refl, refl)
 
 -- table A's partitions 0..500 and 200..900 from their starts to their ends; a buffer as long as the print, and one byte less

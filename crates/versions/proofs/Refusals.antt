@@ -11,17 +11,19 @@ use Rattle.base.specs.Scans.{among}
 use Rattle.base.proofs.Tests.{by-test}
 use Rattle.rules.specs.declared.Refusal.{Refusal}
 use Rattle.rules.specs.Answer.{answer, refused, numbered, unless, andThen}
-use Rattle.rules.specs.Partitions.{totalOf}
+use Rattle.rules.specs.Layout.{productOf}
+use Rattle.rules.specs.Partitions.{totalOf, partitionsOk}
 use Rattle.rules.specs.Print.{partitionOf, fitting, stampPrint, lengthPrinted, bufferAfter}
 use Rattle.rules.proofs.Answers.{not-answer}
 use Rattle.roundtrip.specs.RoundTrip.{TenSlots}
 use Rattle.roundtrip.proofs.Digits.{digits-grow}
-use Rattle.print_order.specs.Order.{countLength, stampLength}
+use Rattle.print_order.specs.Order.{stampLength}
 use Rattle.print_order.proofs.Stamps.{stamps-one-length}
 use Rattle.versions.specs.Versions.{Table, Accepted, Hypothesis, Says, olderRefusesCount, PrintedAnswer, shown, printed}
 use Rattle.versions.specs.Needed.{RefusedEverywhere}
 use Rattle.versions.proofs.Partitions.{total-up}
 use Rattle.versions.proofs.Kept.{one-layout, kept-partitions}
+use Rattle.versions.proofs.Layouts.{print-same}
 use Rattle.versions.proofs.Printing.{partition-up}
 use Rattle.versions.proofs.Demand3.{print-is}
 
@@ -35,18 +37,26 @@ module _ (s b : List ℕ) where
   unfolding shown fitting unless andThen lengthPrinted bufferAfter
   refused-short k h = by-test (leb (length s) (length b)) (λ t. absurd (not-answer (sym (rw t at h)))) (λ f. leb-false _ _ f)
 
-module _ (older newer : Table) (was : Accepted older) (is : Accepted newer) (says : (h : Hypothesis) → Says older newer h) (slots : TenSlots (older .layout)) (slots' : TenSlots (newer .layout)) (e : ℕ) where
+module _ (older newer : Table) (was : Accepted older) (is : Accepted newer) (says : (h : Hypothesis) → Says older newer h) (slots : TenSlots (older .layout)) (e : ℕ) where
+  stamp-layout : stampPrint (newer .layout) (newer .partitions) e ≡ stampPrint (older .layout) (newer .partitions) e
+  unfolding stampPrint
+  stamp-layout = rw (print-same (older .layout) (newer .layout) (one-layout older newer was is says))
+
+  product-layout : productOf (newer .layout) ≡ productOf (older .layout)
+  unfolding productOf
+  product-layout = rw (one-layout older newer was is says .moduli)
+
   -- the newer's print of e is no shorter than the older's
   print-up : e ≤ totalOf (older .partitions) → length (stampPrint (older .layout) (older .partitions) e) ≤ length (stampPrint (newer .layout) (newer .partitions) e)
-  unfolding stampLength countLength
+  unfolding stampLength
   print-up h =
       let rows = kept-partitions older newer was is says in
-      let one = one-layout older newer was is says in
+      let good : partitionsOk (productOf (older .layout)) (newer .partitions) ≡ true = rw (← product-layout) (is .partitions) in
+      let same : stampPrint (newer .layout) (newer .partitions) e ≡ stampPrint (older .layout) (newer .partitions) e = stamp-layout in
       rw (
+        same,
         stamps-one-length (older .layout) (older .partitions) slots (was .layout) (was .partitions) e h,
-        stamps-one-length (newer .layout) (newer .partitions) slots' (is .layout) (is .partitions) e (omega (arith, total-up (older .partitions) (newer .partitions) rows)),
-        one .moduli,
-        one .offsets,
+        stamps-one-length (older .layout) (newer .partitions) slots (was .layout) good e (omega (arith, total-up (older .partitions) (newer .partitions) rows)),
       )
       (omega (arith, digits-grow (partitionOf (older .partitions) e + 1) (partitionOf (newer .partitions) e + 1) (omega (arith, partition-up (older .partitions) (newer .partitions) rows e h))))
 
@@ -67,7 +77,7 @@ module _ (older newer : Table) (was : Accepted older) (is : Accepted newer) (say
       rw (← same)
 
 pub refused-everywhere : RefusedEverywhere
-refused-everywhere older newer was is says slots slots' e b c same a k gives refuses =
+refused-everywhere older newer was is says slots e b c same a k gives refuses =
     by-test (leb e (totalOf (older .partitions)))
-    (λ t. absurd (within older newer was is says slots slots' e b c same a k gives refuses (leb-true _ _ t)))
-    (λ f. beyond older newer was is says slots slots' e b k refuses (leb-false _ _ f))
+    (λ t. absurd (within older newer was is says slots e b c same a k gives refuses (leb-true _ _ t)))
+    (λ f. beyond older newer was is says slots e b k refuses (leb-false _ _ f))

@@ -157,7 +157,7 @@ pub record ExceptionNeeded : Type 0 where
 -- "Where only the newer answers, the older refuses .. a count to print .. with 12" holds without an exception.
 abbrev pub RefusedEverywhere : Type 0
 RefusedEverywhere =
-    (older newer : Table) → Accepted older → Accepted newer → ((h : Hypothesis) → Says older newer h) → TenSlots (older .layout) → TenSlots (newer .layout)
+    (older newer : Table) → Accepted older → Accepted newer → ((h : Hypothesis) → Says older newer h) → TenSlots (older .layout)
     → (e : ℕ) (b c : List ℕ) → length b ≡ length c → (a : PrintedAnswer) (k : Refusal) → printed newer e c ≡ answer a → printed older e b ≡ refused k
     → among (k .number) olderRefusesCount ≡ true
 

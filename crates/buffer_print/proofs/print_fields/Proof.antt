@@ -1,5 +1,4 @@
 use Rattle.buffer_print.proofs.Fitting.{fields-room, fields-fit, fields-short}
-use Rattle.field_print.proofs.Widths.{print-length}
 use borrow.Author.Needs.{needs}
 use Rattle.buffer_print.proofs.print_fields.Statement.{statement}
 use Rattle.buffer_print.proofs.print_fields.Tie as tie
@@ -9,7 +8,7 @@ print-fields-spec =
     tie.close
     (tie.spec
     (λ c κs. search needs)
-    (λ c. search (fields-short, print-length, needs))
-    (λ c κs. (search needs, (search needs, search (fields-room, print-length, needs))))
+    (λ c. search (fields-short, needs))
+    (λ c κs. (search needs, (search needs, search (fields-room, needs))))
     (λ c. search needs)
-    (λ c. search (fields-fit, print-length, needs)))
+    (λ c. search (fields-fit, needs)))

@@ -1,4 +1,4 @@
-use Rattle.print.proofs.Layouts.{slots-count, fields-facts, product-below}
+use Rattle.print.proofs.Layouts.{slots-count, all-fields, product-below}
 use Rattle.print.proofs.Calls.{count-print}
 use Rattle.layouts.proofs.Slots.{slots-within}
 use borrow.Author.Needs.{needs}
@@ -14,6 +14,6 @@ count-of-spec =
     (λ c. search (slots-count, needs))
     (λ c. search (slots-within, needs))
     (λ c. search (slots-count, needs))
-    (λ c κs. (search (fields-facts, needs), search (product-below, needs)))
+    (λ c κs. (search (all-fields, needs), search (product-below, needs)))
     (λ c. search needs)
     (λ c. search (count-print, needs)))

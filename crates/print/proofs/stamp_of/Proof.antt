@@ -1,4 +1,4 @@
-use Rattle.print.proofs.Layouts.{slots-count, fields-facts, decoded-below}
+use Rattle.print.proofs.Layouts.{slots-count, all-fields, decoded-below}
 use Rattle.decode.proofs.Accepted.{decodable, partition-few}
 use Rattle.print.proofs.Calls.{stamp-print}
 use Rattle.layouts.proofs.Slots.{slots-within}
@@ -16,6 +16,6 @@ stamp-of-spec =
     (λ c. search (slots-count, needs))
     (λ c. search (slots-within, needs))
     (λ c. search (slots-count, needs))
-    (λ c κs. (search (partition-few, needs), (search (fields-facts, needs), search (decoded-below, needs))))
+    (λ c κs. (search (partition-few, needs), (search (all-fields, needs), search (decoded-below, needs))))
     (λ c. search needs)
     (λ c. search (stamp-print, needs)))

@@ -1,2 +1,0 @@
--- What the fields of a count must be to be printed.
-pub mod Facts
