@@ -25,7 +25,7 @@ module _ (ms os : List ℕ) (a : AllFields ms os) (i : ℕ) (l : i < length ms) 
   pub offset-small : getD os i 0 ≤ largestOffset
   offset-small = field-facts ms os (a .facts) i l .offset
 
-  -- a modulus and an offset fit a word, and are not 0
+  -- the sum of a modulus and an offset fits a word, and is not 0
   pub sum-fits : (x : ℕ) → x ≤ largestOffset → getD ms i 0 + x < 2 ^ 64
   sum-fits x h = let g = field-facts ms os (a .facts) i l in omega arith
 

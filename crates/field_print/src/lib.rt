@@ -68,7 +68,7 @@ fn write_later_field(
     decimal::write_byte(delimiter, at, buffer)
 }
 
-// Of field i, the first being field 0: "that of the largest shown number, modulus plus offset less one".
+// The width of field i, the first being field 0: "that of the largest shown number, modulus plus offset less one".
 fn field_width(moduli: &[u64], offsets: &[u64], i: usize) -> usize
     requires { ⌜ AllFields (now moduli) (now offsets) ⌝ }
     requires { ⌜ i < length (now moduli) ⌝ }

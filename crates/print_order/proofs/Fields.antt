@@ -1,4 +1,4 @@
--- Digits of one width, one field, and the fields of a count: the smaller number prints first.
+-- Digits of one width, one field, and the fields of a count: the print of the smaller number stands first.
 use Prim.Native.Nat.{ℕ, zero, suc, _+_, _-_, _*_, _/_, _%_, _^_, _≤_, _<_}
 use mathlib.Core.Path.{_≡_, sym, ap, _∙_}
 use mathlib.Core.Bool.{true}

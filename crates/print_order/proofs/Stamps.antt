@@ -82,7 +82,7 @@ stamps-in-order l p t ok good e f h k digits =
     (λ same. in-one l p t ok good e f h k same)
     (λ more. rw (le-ltb e f (omega (arith, earlier l p t ok good f e k h more))) (sorts-one-way _ _ (numbers-sort _ _ _ _ (omega arith) (sym digits))))
 
--- the shorter stamp is of an earlier partition
+-- the shorter stamp has the smaller encoded count
 shorter-earlier : (l : Layout) (p : Partitions) → TenSlots l → layoutOk l ≡ true → partitionsOk (productOf l) p ≡ true → (e f : ℕ) → e ≤ totalOf p → f ≤ totalOf p
     → length (stampPrint l p e) < length (stampPrint l p f) → e < f
 unfolding stampLength

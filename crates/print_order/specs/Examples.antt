@@ -33,7 +33,7 @@ pub ninth-and-tenth :
 unfolding computing sortsBefore fieldsLength countLength stampLength bytes layoutA tenPartitions
 ninth-and-tenth = (refl, refl, refl)
 
--- modulus 10: a byte without an offset, two with offset 1
+-- modulus 10: a byte without an offset, two with offset 1; table A: `00.0` to `99.9`
 pub lengths : (map (λ o. countLength (oneField 10 o)) (0 ∷ 1 ∷ []) ≡ (1 ∷ 2 ∷ [])) × (countLength layoutA ≡ 4)
 unfolding computing fieldsLength countLength layoutA oneField
 lengths = (refl, refl)

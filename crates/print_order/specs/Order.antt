@@ -1,5 +1,5 @@
 -- Request 2: "Stamps of different length break our sorting." Under one layout all prints of counts have one length, and in byte order
--- they stand as their counts do. So do the stamps of one partition, and of partitions whose numbers are as long.
+-- they stand as their counts do. So do the stamps of one partition, and of partitions whose numbers are equally long.
 use Prim.Native.Nat.{ℕ, _+_, _-_, _≤_, _<_}
 use mathlib.Core.Path.{_≡_}
 use mathlib.Core.Bool.{Bool, true, false, _&&_, _||_}
@@ -40,7 +40,7 @@ stampLength l i = digitCount (i + 1) + 1 + countLength l
 abbrev pub CountsOneLength : Type 0
 CountsOneLength = (l : Layout) → TenSlots l → layoutOk l ≡ true → (c : ℕ) → c < productOf l → length (countPrint l c) ≡ countLength l
 
--- of two counts below P the smaller prints first
+-- of two counts below P the print of the smaller stands first
 abbrev pub CountsInOrder : Type 0
 CountsInOrder =
     (l : Layout) → TenSlots l → layoutOk l ≡ true → (c d : ℕ) → c < productOf l → d < productOf l
@@ -52,19 +52,19 @@ StampsOneLength =
     (l : Layout) (p : Partitions) → TenSlots l → layoutOk l ≡ true → partitionsOk (productOf l) p ≡ true → (e : ℕ) → e ≤ totalOf p
     → length (stampPrint l p e) ≡ stampLength l (partitionOf p e)
 
--- Where the numbers of two partitions have equally many digits, so always within one partition, the smaller encoded count prints first.
+-- Where the numbers of two partitions have equally many digits, so always within one partition, the print of the smaller encoded count stands first.
 abbrev pub StampsInOrder : Type 0
 StampsInOrder =
     (l : Layout) (p : Partitions) → TenSlots l → layoutOk l ≡ true → partitionsOk (productOf l) p ≡ true → (e f : ℕ) → e ≤ totalOf p → f ≤ totalOf p
     → digitCount (partitionOf p e + 1) ≡ digitCount (partitionOf p f + 1) → sortsBefore (stampPrint l p e) (stampPrint l p f) ≡ ltb e f
 
--- Any stamps: the shorter one has the smaller encoded count, and of two as long the one that stands before the other.
+-- Any stamps: the shorter one has the smaller encoded count, and of two equally long ones the one that stands before the other.
 abbrev pub StampsByLength : Type 0
 StampsByLength =
     (l : Layout) (p : Partitions) → TenSlots l → layoutOk l ≡ true → partitionsOk (productOf l) p ≡ true → (e f : ℕ) → e ≤ totalOf p → f ≤ totalOf p
     → shorterOrBefore (stampPrint l p e) (stampPrint l p f) ≡ ltb e f
 
--- Any stamps, by the partition's number and then as text, as `sort -t / -k 1,1n -k 2` has them.
+-- Any stamps, by the partition's number and then as text, as `LC_ALL=C sort -t / -k 1,1n -k 2` has them.
 abbrev pub StampsByNumber : Type 0
 StampsByNumber =
     (l : Layout) (p : Partitions) → TenSlots l → layoutOk l ≡ true → partitionsOk (productOf l) p ≡ true → (e f : ℕ) → e ≤ totalOf p → f ≤ totalOf p

@@ -15,7 +15,7 @@ pub record FieldsFacts (ms os : List ℕ) : Type 0 where
   pub offsets : all (λ o. leb o largestOffset) os ≡ true
   pub in-range : product ms ≤ largestP
 
--- all of them
+-- all its fields, one to ten
 pub record AllFields (ms os : List ℕ) : Type 0 where
   pub some : 1 ≤ length ms
   pub few : length ms ≤ mostFields
