@@ -16,13 +16,13 @@ const LARGEST_GIVEN: u64 = 1_000_000_000_000_000;
 /// "Forward, given MSF and a whole count up to 10^15: time + (rate / MSF) × (count given - count)."
 pub fn forward(segment: DoubleSegment, msf: u64, given: u64) -> Result<f64, Refusal> {
     if given > LARGEST_GIVEN {
-        return Err(15);
+        return Err(Refusal::new(15));
     }
     let tick = tick(segment, msf)?;
     // Exact: 10^15 is below 2^53.
     let given = given as f64;
     if given < segment.count {
-        return Err(15);
+        return Err(Refusal::new(15));
     }
     finite(segment.time + tick * (given - segment.count))
 }
@@ -31,7 +31,7 @@ pub fn forward(segment: DoubleSegment, msf: u64, given: u64) -> Result<f64, Refu
 pub fn back(segment: DoubleSegment, msf: u64, given: f64) -> Result<f64, Refusal> {
     let tick = tick(segment, msf)?;
     if !given.is_finite() || given < segment.time {
-        return Err(15);
+        return Err(Refusal::new(15));
     }
     finite(segment.count + (given - segment.time) / tick)
 }
@@ -40,17 +40,17 @@ pub fn back(segment: DoubleSegment, msf: u64, given: f64) -> Result<f64, Refusal
 fn tick(segment: DoubleSegment, msf: u64) -> Result<f64, Refusal> {
     let DoubleSegment { count, time, rate } = segment;
     if msf == 0 || msf > Layout::LARGEST_MSF {
-        return Err(15);
+        return Err(Refusal::new(15));
     }
     if !count.is_finite() || !time.is_finite() || !rate.is_finite() {
-        return Err(15);
+        return Err(Refusal::new(15));
     }
     if rate <= 0.0 {
-        return Err(15);
+        return Err(Refusal::new(15));
     }
     let tick = rate / msf as f64;
     if tick == 0.0 {
-        return Err(15);
+        return Err(Refusal::new(15));
     }
     Ok(tick)
 }
@@ -60,6 +60,6 @@ fn finite(result: f64) -> Result<f64, Refusal> {
     if result.is_finite() {
         Ok(result)
     } else {
-        Err(15)
+        Err(Refusal::new(15))
     }
 }

@@ -37,13 +37,13 @@ impl Layout {
     pub(crate) fn check(&self) -> Result<Clock<'_>, Refusal> {
         // "n from 1 to 10"
         if self.n < 1 || self.n > Self::MOST_FIELDS as u64 {
-            return Err(1);
+            return Err(Refusal::new(1));
         }
         let n = self.n as usize;
         let (moduli, offsets) = (&self.moduli[..n], &self.offsets[..n]);
         // "an offset from 0 to 1,000"
         if offsets.iter().any(|&offset| offset > Self::LARGEST_OFFSET) {
-            return Err(1);
+            return Err(Refusal::new(1));
         }
         // "a modulus of at least 1"; "P, the product of the moduli, is at most 10^15": no partial product is above P.
         let mut weights = [1; Self::MOST_FIELDS];
@@ -52,13 +52,13 @@ impl Layout {
             weights[i] = product;
             product = match product.checked_mul(moduli[i]) {
                 Some(p) if (1..=Self::LARGEST_P).contains(&p) => p,
-                _ => return Err(1),
+                _ => return Err(Refusal::new(1)),
             };
         }
         // "MSF [..] is at most 10^12"
         let msf = weights[0];
         if msf > Self::LARGEST_MSF {
-            return Err(1);
+            return Err(Refusal::new(1));
         }
         // "1 `.`, 2 `:`, 3 `-`, 4 `,`, 5 blank"
         let mark = match self.delimiter {
@@ -67,7 +67,7 @@ impl Layout {
             3 => b'-',
             4 => b',',
             5 => b' ',
-            _ => return Err(1),
+            _ => return Err(Refusal::new(1)),
         };
         Ok(Clock { moduli, offsets, weights, p: product, msf, mark })
     }

@@ -15,23 +15,23 @@ impl<'a> Partitions<'a> {
 
     /// Refusal 2, or "the sum of lengths, called the total".
     pub(crate) fn check(self, p: u64) -> Result<u64, Refusal> {
-        // "of one length from 1 to 9,999"
+        // "of one length from 1 to 9,999"; "Wrong list lengths come first and give the shortest length."
         let rows = self.start.len();
         if rows != self.end.len() || rows < 1 || rows > Self::MOST {
-            return Err(2);
+            return Err(Refusal::at(2, rows.min(self.end.len())));
         }
-        // "Each start is below its end, each end is at most P - 1." So each length is below 10^15, and 9,999 of
-        // them cannot wrap.
         let mut total = 0;
-        for (start, end) in self.rows() {
+        for (row, (start, end)) in self.rows().enumerate() {
+            // "Each start is below its end, each end is at most P - 1."
             if start >= end || end > p - 1 {
-                return Err(2);
+                return Err(Refusal::at(2, row));
             }
+            // "The sum of lengths, called the total, is at most 10^15": "for a sum the row that passes the limit". Two
+            // numbers of at most 10^15 do not wrap.
             total += end - start;
-        }
-        // "The sum of lengths, called the total, is at most 10^15."
-        if total > Self::LARGEST_TOTAL {
-            return Err(2);
+            if total > Self::LARGEST_TOTAL {
+                return Err(Refusal::at(2, row));
+            }
         }
         Ok(total)
     }
@@ -47,18 +47,18 @@ impl<'a> Partitions<'a> {
             Some(number) => {
                 // "partition 0 or above the number there is"
                 if number < 1 || number > self.start.len() as u64 {
-                    return Err(10);
+                    return Err(Refusal::new(10));
                 }
                 // "count outside the named partition"
                 let row = number as usize - 1;
                 if !holds(row) {
-                    return Err(11);
+                    return Err(Refusal::new(11));
                 }
                 row
             }
             // "Without one, the partition is the first whose start..end, both included, holds the count; refused
             // exactly if no partition holds it."
-            None => (0..self.start.len()).find(|&row| holds(row)).ok_or(11u32)?,
+            None => (0..self.start.len()).find(|&row| holds(row)).ok_or(Refusal::new(11))?,
         };
         let earlier: u64 = self.rows().take(row).map(|(start, end)| end - start).sum();
         Ok(earlier + (count - self.start[row]))

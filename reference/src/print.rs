@@ -7,7 +7,7 @@ use crate::{Layout, Partitions, Refusal};
 pub fn print_count(layout: &Layout, count: u64, buffer: &mut [u8]) -> Result<usize, Refusal> {
     let clock = layout.check()?;
     if count >= clock.p {
-        return Err(9);
+        return Err(Refusal::new(9));
     }
     let mut print = Print::new();
     print.fields(&clock, count);
@@ -20,7 +20,7 @@ pub fn print_stamp(layout: &Layout, partitions: Partitions, e: u64, buffer: &mut
     let total = partitions.check(clock.p)?;
     // "encoded count above the total"
     if e > total {
-        return Err(12);
+        return Err(Refusal::new(12));
     }
     let (number, count) = partitions.locate(e);
     let mut print = Print::new();
@@ -75,7 +75,7 @@ impl Print {
     /// "lent buffer shorter than the print", and then "nothing lent is written".
     fn copy_to(&self, buffer: &mut [u8]) -> Result<usize, Refusal> {
         let print = &self.bytes[self.from..];
-        buffer.get_mut(..print.len()).ok_or(16u32)?.copy_from_slice(print);
+        buffer.get_mut(..print.len()).ok_or(Refusal::new(16))?.copy_from_slice(print);
         Ok(print.len())
     }
 }

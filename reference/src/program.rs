@@ -13,7 +13,7 @@ pub fn table_a() -> (Layout, Partitions<'static>, Segments<'static>) {
 }
 
 /// "The stamp program holds table A, reads lines (up to byte 10 or the end of input) from standard input [..] and prints
-/// encoded count and time, or `refused` and the number."
+/// encoded count and time, or `refused` and the number"; the refusal's place "after the number" (request 3).
 pub fn stamp_program(input: &[u8]) -> Vec<u8> {
     let mut output = String::new();
     let mut rest = input;
@@ -32,7 +32,7 @@ pub fn stamp_program(input: &[u8]) -> Vec<u8> {
 fn encoded_and_time(line: &[u8]) -> Result<(u64, i64), Refusal> {
     // "A line over 96 bytes prints `refused 4`"
     if line.len() > LONGEST_TEXT {
-        return Err(4);
+        return Err(Refusal::new(4));
     }
     let (layout, partitions, segments) = table_a();
     let e = read_stamp(&layout, partitions, line)?;

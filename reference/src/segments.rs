@@ -18,32 +18,48 @@ impl<'a> Segments<'a> {
 
     /// Refusal 3, given an accepted layout's MSF and accepted partitions' total.
     pub(crate) fn check(self, msf: u64, total: u64) -> Result<(), Refusal> {
-        // "of one length, 1 to 10,000"
+        // "of one length, 1 to 10,000"; "Wrong list lengths come first and give the shortest length."
         let rows = self.count.len();
         if rows != self.time.len() || rows != self.rate.len() || rows < 1 || rows > Self::MOST {
-            return Err(3);
+            return Err(Refusal::at(3, rows.min(self.time.len()).min(self.rate.len())));
         }
         let last = rows - 1;
-        for i in 0..rows {
-            // "Times [..] lie within ±4×10^18."
-            if self.time[i] < -Self::LATEST || self.time[i] > Self::LATEST {
-                return Err(3);
-            }
-            // "A rate lies from 1,000×MSF to 10^15"
-            if self.rate[i] < 1_000 * msf || self.rate[i] > Self::LARGEST_RATE {
-                return Err(3);
-            }
-            // "Each segment ends at the next one's count, the last at the total"
-            let end = if i == last { total } else { self.count[i + 1] };
-            // "Counts grow strictly, the last is at most the total. Times grow strictly"
-            let grows =
-                if i == last { self.count[i] <= end } else { self.count[i] < end && self.time[i] < self.time[i + 1] };
-            // "the time reached there by the segment's own line, rounded up, is at most 4×10^18"
-            if !grows || self.line_passes(i, end, Self::LATEST, msf) {
-                return Err(3);
+        for i in 0..last {
+            // "Each segment ends at the next one's count"; "Counts grow strictly [..]. Times grow strictly".
+            let end = self.count[i + 1];
+            let grows = self.count[i] < end && self.time[i] < self.time[i + 1];
+            if !grows || !self.within_limits(i, end, msf) {
+                return Err(Refusal::at(3, self.row(i, msf)));
             }
         }
+        // "the last is at most the total"; "the last at the total".
+        if self.count[last] > total || !self.within_limits(last, total, msf) {
+            return Err(Refusal::at(3, last));
+        }
         Ok(())
+    }
+
+    /// Of row i and the next: "between two rows the later one [..], for a line its own row". Row i is looked at first; where
+    /// the next count is not greater its line does not rise.
+    #[cold]
+    fn row(self, i: usize, msf: u64) -> usize {
+        let end = self.count[i + 1].max(self.count[i]);
+        if self.within_limits(i, end, msf) {
+            i + 1
+        } else {
+            i
+        }
+    }
+
+    /// "Times [..] lie within ±4×10^18. A rate lies from 1,000×MSF to 10^15 [..]. Each segment ends at the next one's count, the
+    /// last at the total; the time reached there by the segment's own line, rounded up, is at most 4×10^18."
+    fn within_limits(self, i: usize, end: u64, msf: u64) -> bool {
+        let (time, rate) = (self.time[i], self.rate[i]);
+        time >= -Self::LATEST
+            && time <= Self::LATEST
+            && rate >= 1_000 * msf
+            && rate <= Self::LARGEST_RATE
+            && !self.line_passes(i, end, Self::LATEST, msf)
     }
 
     /// Is segment i's line at that count, rounded up, later than that time (not before the segment's)? The line is

@@ -14,47 +14,61 @@ const LARGEST_COUNT: u128 = 1_000_000_000_000_000;
 pub fn read_text(layout: &Layout, text: &[u8]) -> Result<u64, Refusal> {
     let clock = layout.check()?;
     if text.len() > LONGEST_TEXT {
-        return Err(4);
+        return Err(Refusal::new(4));
     }
-    count_of(&clock, text)
+    count_of(&clock, text, 0)
 }
 
-/// "Order: [..] 5; 7; 6; then fields left to right, 9 before 8 in each; the sum's 9".
-pub(crate) fn count_of(clock: &Clock, text: &[u8]) -> Result<u64, Refusal> {
-    let fields = Fields::split(text)?;
-    if fields.number > clock.moduli.len() {
-        return Err(7);
+/// The count of a text, or of a stamp from the byte behind its front part on. "Order: [..] 5; 7; 6; then fields left to
+/// right, 9 before 8 in each; the sum's 9". Places count from the first byte given.
+pub(crate) fn count_of(clock: &Clock, text: &[u8], from: usize) -> Result<u64, Refusal> {
+    // The value of each of the first ten fields, none if it is empty. All values above the largest field are taken as one.
+    let mut values = [None; Layout::MOST_FIELDS];
+    let number = fields(text, from, |field, _, digit| {
+        if let Some(value) = values.get_mut(field) {
+            let longer = value.unwrap_or(0) * 10 + u64::from(digit);
+            *value = Some(longer.min(LARGEST_FIELD + 1));
+        }
+    })?;
+    let n = clock.moduli.len();
+    if number > n {
+        return Err(Refusal::at(7, first_digit(text, from, n)));
     }
     // "The first field must be there."
-    if fields.values[0].is_none() {
-        return Err(6);
+    if values[0].is_none() {
+        return Err(Refusal::new(6));
     }
     // "The count is the sum over fields of (value - offset) times the product of the later moduli."
     let mut sum: u128 = 0;
-    for i in 0..fields.number {
+    for (i, &field) in values[..number].iter().enumerate() {
         // "An empty or missing field adds no ticks, whatever its offset"
-        if let Some(value) = fields.values[i] {
+        if let Some(value) = field {
             if value > LARGEST_FIELD {
-                return Err(9);
+                return Err(Refusal::at(9, first_digit(text, from, i)));
             }
             if value < clock.offsets[i] {
-                return Err(8);
+                return Err(Refusal::at(8, first_digit(text, from, i)));
             }
             sum += u128::from(value - clock.offsets[i]) * u128::from(clock.weights[i]);
         }
     }
     if sum > LARGEST_COUNT {
-        return Err(9);
+        return Err(Refusal::at(9, text.len()));
     }
     Ok(sum as u64)
 }
 
-/// "The fields are what stands between marks."
-struct Fields {
-    /// How many there are; there may be more than a layout can have.
-    number: usize,
-    /// The value of each of the first ten, none if it is empty. All values above the largest field are taken as one.
-    values: [Option<u64>; Layout::MOST_FIELDS],
+/// "the first digit of the field", or for one that is empty "the text's length". Fields count from 0; all bytes can stand
+/// where they are.
+#[cold]
+fn first_digit(text: &[u8], from: usize, wanted: usize) -> usize {
+    let mut place = None;
+    let _ = fields(text, from, |field, at, _| {
+        if field == wanted && place.is_none() {
+            place = Some(at);
+        }
+    });
+    place.unwrap_or(text.len())
 }
 
 /// What stands to the left.
@@ -68,41 +82,33 @@ enum Left {
     DigitAndBlanks,
 }
 
-impl Fields {
-    /// "digits, blank, `.` `:` `,` `-`", any other byte is refused 5. "A mark is each `.` `:` `,` `-`, and each run of
-    /// blanks with a digit directly on both sides. Other blanks are dropped", those at both ends too.
-    fn split(text: &[u8]) -> Result<Fields, Refusal> {
-        let mut fields = Fields { number: 1, values: [None; Layout::MOST_FIELDS] };
-        let mut left = Left::Mark;
-        for &byte in text {
-            match byte {
-                b'0'..=b'9' => {
-                    if left == Left::DigitAndBlanks {
-                        fields.number += 1;
-                    }
-                    fields.digit(byte - b'0');
-                    left = Left::Digit;
+/// "The fields are what stands between marks." Gives each digit with its field and its place, and tells how many fields there
+/// are; there may be more than a layout can have. "digits, blank, `.` `:` `,` `-`", any other byte is refused 5. "A mark is
+/// each `.` `:` `,` `-`, and each run of blanks with a digit directly on both sides. Other blanks are dropped", those at both
+/// ends too.
+fn fields(text: &[u8], from: usize, mut digit: impl FnMut(usize, usize, u8)) -> Result<usize, Refusal> {
+    let mut marks = 0;
+    let mut left = Left::Mark;
+    for (at, &byte) in text.iter().enumerate().skip(from) {
+        match byte {
+            b'0'..=b'9' => {
+                if left == Left::DigitAndBlanks {
+                    marks += 1;
                 }
-                b' ' => {
-                    if left == Left::Digit {
-                        left = Left::DigitAndBlanks;
-                    }
-                }
-                b'.' | b':' | b',' | b'-' => {
-                    fields.number += 1;
-                    left = Left::Mark;
-                }
-                _ => return Err(5),
+                digit(marks, at, byte - b'0');
+                left = Left::Digit;
             }
+            b' ' => {
+                if left == Left::Digit {
+                    left = Left::DigitAndBlanks;
+                }
+            }
+            b'.' | b':' | b',' | b'-' => {
+                marks += 1;
+                left = Left::Mark;
+            }
+            _ => return Err(Refusal::at(5, at)),
         }
-        Ok(fields)
     }
-
-    /// One more digit of the last field.
-    fn digit(&mut self, digit: u8) {
-        if let Some(field) = self.values.get_mut(self.number - 1) {
-            let value = field.unwrap_or(0) * 10 + u64::from(digit);
-            *field = Some(value.min(LARGEST_FIELD + 1));
-        }
-    }
+    Ok(marks + 1)
 }

@@ -9,11 +9,11 @@ pub fn time_of(layout: &Layout, partitions: Partitions, segments: Segments, e: u
     segments.check(clock.msf, total)?;
     // "encoded count above the total"
     if e > total {
-        return Err(12);
+        return Err(Refusal::new(12));
     }
     // "count [..] before the first segment"
     if e < segments.count[0] {
-        return Err(13);
+        return Err(Refusal::new(13));
     }
     // "The segment of e is the last whose count is at most e."
     let i = segments.count.partition_point(|&count| count <= e) - 1;
@@ -30,11 +30,11 @@ pub fn count_at(layout: &Layout, partitions: Partitions, segments: Segments, t: 
     segments.check(clock.msf, total)?;
     // "time beyond ±4×10^18"
     if t < -Segments::LATEST || t > Segments::LATEST {
-        return Err(14);
+        return Err(Refusal::new(14));
     }
     // "time before the first segment"
     if t < segments.time[0] {
-        return Err(13);
+        return Err(Refusal::new(13));
     }
     // "the last segment i with time(i) at most T; count(i) + (T - time(i))×1,000×MSF / rate(i), rounded down". The
     // quotient is at most T - time(i), since the rate is at least 1,000×MSF.
@@ -49,7 +49,7 @@ pub fn count_at(layout: &Layout, partitions: Partitions, segments: Segments, t: 
     }
     // "or its answer above the total"
     if count > total {
-        return Err(14);
+        return Err(Refusal::new(14));
     }
     Ok(count)
 }

@@ -3,6 +3,7 @@
 mod common;
 use std::collections::BTreeMap;
 
+use common::err;
 use reference::random::Random;
 use reference::script::Tables;
 use reference::*;
@@ -112,10 +113,18 @@ impl Seen {
 
     /// "Where the older answers, the newer gives the same answer. Where only the newer answers, the older refuses" with
     /// one of these. False where that does not hold.
-    fn claim<T: PartialEq>(&mut self, call: &str, old: Result<T, u32>, new: Result<T, u32>, allowed: &[u32]) -> bool {
+    fn claim<T: PartialEq>(
+        &mut self,
+        call: &str,
+        old: Result<T, Refusal>,
+        new: Result<T, Refusal>,
+        allowed: &[u32],
+    ) -> bool {
         match (old, new) {
             (Ok(old), Ok(new)) if old == new => self.note(format!("{} both", call)),
-            (Err(refusal), Ok(_)) if allowed.contains(&refusal) => self.note(format!("{} {}", call, refusal)),
+            (Err(Refusal { number, place: None }), Ok(_)) if allowed.contains(&number) => {
+                self.note(format!("{} {}", call, number));
+            }
             (Err(_), Err(_)) => self.note(format!("{} neither", call)),
             _ => return false,
         }
@@ -124,7 +133,7 @@ impl Seen {
 }
 
 /// A print or a refusal, with what the lent buffer holds afterwards.
-fn print(tables: &Tables, e: u64, len: usize, fill: u8) -> Result<Vec<u8>, u32> {
+fn print(tables: &Tables, e: u64, len: usize, fill: u8) -> Result<Vec<u8>, Refusal> {
     let mut lent = vec![fill; len];
     let result = print_stamp(&tables.layout, tables.partitions(), e, &mut lent);
     let printed = result.unwrap_or(0);
@@ -184,7 +193,7 @@ fn on_random_pairs() {
                     let len = print_count(&old.layout, count, &mut lent).unwrap();
                     [format!("{}/", number).into_bytes(), lent[..len].to_vec()].concat()
                 };
-                let fitting = |text: Vec<u8>| if text.len() <= len { Ok(text) } else { Err(16) };
+                let fitting = |text: Vec<u8>| if text.len() <= len { Ok(text) } else { err(16) };
                 assert_eq!(old_print, fitting(text(last + 1, old.end[last])));
                 assert_eq!(new_print, fitting(text(last + 2, new.start[last + 1])));
                 // Since request 2 the newer's print is never the shorter one.
@@ -233,7 +242,7 @@ fn on_random_pairs() {
     }
 }
 
-fn word(print: &Result<Vec<u8>, u32>) -> String {
+fn word(print: &Result<Vec<u8>, Refusal>) -> String {
     match print {
         Ok(_) => "ok".to_string(),
         Err(refusal) => refusal.to_string(),
@@ -247,7 +256,7 @@ fn the_exception_at_its_smallest() {
     let older = Partitions { start: &[0; 9], end: &[1; 9] };
     let newer = Partitions { start: &[0; 10], end: &[1; 10] };
     let mut lent = [0; 3];
-    assert_eq!(print_stamp(&layout, newer, 9, &mut lent), Err(16));
+    assert_eq!(print_stamp(&layout, newer, 9, &mut lent), err(16));
     assert_eq!(lent, [0; 3]);
     assert_eq!(print_stamp(&layout, older, 9, &mut lent), Ok(3));
     assert_eq!(&lent, b"9/1");
@@ -262,7 +271,7 @@ fn the_exception_with_an_offset() {
     let newer = Partitions { start: &[0, 0], end: &[9, 5] };
     for (partitions, print) in [(older, b"1/10"), (newer, b"2/01")] {
         let mut lent = [0; 4];
-        assert_eq!(print_stamp(&layout, partitions, 9, &mut lent[..3]), Err(16));
+        assert_eq!(print_stamp(&layout, partitions, 9, &mut lent[..3]), err(16));
         assert_eq!(lent, [0; 4]);
         assert_eq!(print_stamp(&layout, partitions, 9, &mut lent), Ok(4));
         assert_eq!(&lent, print);
@@ -303,20 +312,20 @@ fn table_a_and_its_cut() {
     assert_eq!(steps_back(&layout, cut, first), Ok(false));
     for e in 0..=1_202 {
         let (old, new) = (time_of(&layout, cut, first, e), time_of(&layout, partitions, segments, e));
-        assert!(old == new || (old == Err(12) && e > 500));
+        assert!(old == new || (old == err(12) && e > 500));
         let (old, new) = (common::printed_stamp(&layout, cut, e), common::printed_stamp(&layout, partitions, e));
-        assert!(old == new || (old == Err(12) && e > 500) || e == 500);
+        assert!(old == new || (old == err(12) && e > 500) || e == 500);
     }
     for t in -1_010..2_810 {
         let (old, new) = (count_at(&layout, cut, first, t), count_at(&layout, partitions, segments, t));
-        assert!(old == new || old == Err(14));
+        assert!(old == new || old == err(14));
     }
     for count in 0..1_000 {
         let text = common::printed_count(&layout, count).unwrap();
         for stamp in [text.clone(), format!("0/{}", text), format!("1/{}", text), format!("2/{}", text)] {
             let (old, new) =
                 (read_stamp(&layout, cut, stamp.as_bytes()), read_stamp(&layout, partitions, stamp.as_bytes()));
-            assert!(old == new || old == Err(10) || old == Err(11), "{}", stamp);
+            assert!(old == new || old == err(10) || old == err(11), "{}", stamp);
         }
     }
 }

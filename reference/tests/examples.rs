@@ -9,22 +9,22 @@ fn text_under_table_a() {
     assert_eq!(a_text("12.3"), Ok(123));
     assert_eq!(a_text("12"), Ok(120));
     assert_eq!(a_text("5.13"), Ok(63));
-    assert_eq!(a_text(".5"), Err(6));
-    assert_eq!(a_text("12.."), Err(7));
-    assert_eq!(a_text(""), Err(6));
+    assert_eq!(a_text(".5"), err(6));
+    assert_eq!(a_text("12.."), err_at(7, 4));
+    assert_eq!(a_text(""), err(6));
 }
 
 #[test]
 fn stamps_under_table_a() {
     assert_eq!(a_stamp("1/50.0"), Ok(500));
-    assert_eq!(a_stamp("1/50.1"), Err(11));
+    assert_eq!(a_stamp("1/50.1"), err(11));
     assert_eq!(a_stamp("50.1"), Ok(801));
     assert_eq!(a_stamp("30.0"), Ok(300));
-    assert_eq!(a_stamp("0/1"), Err(10));
-    assert_eq!(a_stamp("3/1"), Err(10));
-    assert_eq!(a_stamp(".5"), Err(6));
-    assert_eq!(a_stamp("12.."), Err(7));
-    assert_eq!(a_stamp(""), Err(6));
+    assert_eq!(a_stamp("0/1"), err(10));
+    assert_eq!(a_stamp("3/1"), err(10));
+    assert_eq!(a_stamp(".5"), err(6));
+    assert_eq!(a_stamp("12.."), err_at(7, 4));
+    assert_eq!(a_stamp(""), err(6));
 }
 
 #[test]
@@ -32,15 +32,15 @@ fn prints_under_table_a() {
     assert_eq!(a_print(499).unwrap(), "1/49.9");
     assert_eq!(a_print(500).unwrap(), "2/20.0");
     assert_eq!(a_print(1_200).unwrap(), "2/90.0");
-    assert_eq!(a_print(1_201), Err(12));
+    assert_eq!(a_print(1_201), err(12));
 }
 
 #[test]
 fn times_under_table_a() {
     assert_eq!([a_time(1), a_time(599), a_time(600)], [Ok(-997), Ok(498), Ok(1_000)]);
     assert_eq!([a_count(-998), a_count(-997), a_count(700)], [Ok(0), Ok(1), Ok(599)]);
-    assert_eq!([a_count(1_000), a_count(2_802), a_count(2_803)], [Ok(600), Ok(1_200), Err(14)]);
-    assert_eq!(a_count(-1_001), Err(13));
+    assert_eq!([a_count(1_000), a_count(2_802), a_count(2_803)], [Ok(600), Ok(1_200), err(14)]);
+    assert_eq!(a_count(-1_001), err(13));
     let (layout, partitions, segments) = table_a();
     assert_eq!(steps_back(&layout, partitions, segments), Ok(false));
 }
@@ -49,7 +49,7 @@ fn times_under_table_a() {
 fn other_layouts() {
     let observer = layout(&[65_536, 60, 800], &[0, 0, 1], 2);
     assert_eq!(read_text(&observer, b"20538:39:768"), Ok(985_855_967));
-    assert_eq!(read_text(&observer, b"20538:39:0"), Err(8));
+    assert_eq!(read_text(&observer, b"20538:39:0"), err_at(8, 9));
     let galileo = plain(&[16_777_215, 91, 10, 8]);
     assert_eq!(read_text(&galileo, b"0:0:0:9"), Ok(9));
     assert_eq!(read_text(&galileo, b"0:0:1:1"), Ok(9));
@@ -65,9 +65,9 @@ fn double_form() {
 #[test]
 fn messages() {
     assert_eq!(a_message(b"\x07\xd01/5.3\x00\x05"), Ok(53));
-    assert_eq!(a_message(b"\x07\xd01/5.3\x00\x08"), Err(17));
+    assert_eq!(a_message(b"\x07\xd01/5.3\x00\x08"), err(23));
     // With L 7 the payload is read too, with L 3 the partition is not.
-    assert_eq!(a_message(b"\x07\xd01/5.3\x00\x07"), Err(5));
+    assert_eq!(a_message(b"\x07\xd01/5.3\x00\x07"), err_at(5, 0));
     assert_eq!(a_message(b"\x07\xd01/5.3\x00\x03"), Ok(53));
 }
 
@@ -106,7 +106,7 @@ fn printing_a_count() {
     let (a, _, _) = table_a();
     assert_eq!(printed_count(&a, 7).unwrap(), "00.7");
     assert_eq!(printed_count(&a, 999).unwrap(), "99.9");
-    assert_eq!(printed_count(&a, 1_000), Err(9));
+    assert_eq!(printed_count(&a, 1_000), err(9));
     for (delimiter, print) in [(1, "03.4"), (2, "03:4"), (3, "03-4"), (4, "03,4"), (5, "03 4")] {
         assert_eq!(printed_count(&layout(&[100, 10], &[0, 0], delimiter), 34).unwrap(), print);
     }

@@ -12,7 +12,7 @@ const E15: u64 = 1_000_000_000_000_000;
 /// All prints of a clock with one field.
 fn all_prints(modulus: u64, offset: u64) -> Vec<String> {
     let one = layout(&[modulus], &[offset], 1);
-    assert_eq!(printed_count(&one, modulus), Err(9));
+    assert_eq!(printed_count(&one, modulus), err(9));
     (0..modulus).map(|count| printed_count(&one, count).unwrap()).collect()
 }
 
@@ -99,7 +99,7 @@ fn each_delimiter() {
         let layout = layout(&[10, 92], &[1, 9], delimiter);
         assert_eq!(printed_count(&layout, 0).unwrap(), first);
         assert_eq!(printed_count(&layout, 919).unwrap(), last);
-        assert_eq!(printed_count(&layout, 920), Err(9));
+        assert_eq!(printed_count(&layout, 920), err(9));
     }
 }
 
@@ -121,8 +121,8 @@ fn lent_buffers_of_the_width() {
     let partitions = Partitions { start: &[0], end: &[9] };
     for count in 0..10 {
         let mut lent = [7; 4];
-        assert_eq!(print_count(&layout, count, &mut lent[..1]), Err(16));
-        assert_eq!(print_stamp(&layout, partitions, count, &mut lent[..3]), Err(16));
+        assert_eq!(print_count(&layout, count, &mut lent[..1]), err(16));
+        assert_eq!(print_stamp(&layout, partitions, count, &mut lent[..3]), err(16));
         assert_eq!(lent, [7; 4]);
         assert_eq!(print_count(&layout, count, &mut lent[..2]), Ok(2));
         assert_eq!(lent[2..], [7; 2]);

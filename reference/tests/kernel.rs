@@ -1,4 +1,4 @@
-//! Kernel text: the readings 1 to 17 of request 1 (README.md, "Kernel text"), the sample kernels of documents 000 and 003, and
+//! Kernel text: the readings 1 to 17 of request 1 (README.md, "Kernel text"; 18 is in `places.rs`), the sample kernels of documents 000 and 003, and
 //! table A as kernel text.
 
 mod common;
@@ -48,7 +48,7 @@ struct Read {
 }
 
 /// Into lists of these lengths, each entry 99: a refusal writes nothing, an answer writes the front.
-fn read_into(text: &[u8], clock: i64, lent: [usize; 7]) -> Result<Read, u32> {
+fn read_into(text: &[u8], clock: i64, lent: [usize; 7]) -> Result<Read, Refusal> {
     let [mut moduli, mut offsets, mut starts, mut ends, mut counts, mut rates] =
         [lent[0], lent[1], lent[2], lent[3], lent[4], lent[6]].map(|len| vec![99u64; len]);
     let mut times = vec![99i64; lent[5]];
@@ -80,7 +80,7 @@ fn read_into(text: &[u8], clock: i64, lent: [usize; 7]) -> Result<Read, u32> {
     Ok(Read { kernel, layout, starts, ends, counts, times, rates })
 }
 
-fn read(text: impl AsRef<[u8]>) -> Result<Read, u32> {
+fn read(text: impl AsRef<[u8]>) -> Result<Read, Refusal> {
     read_into(text.as_ref(), 77, [10, 10, 50, 50, 50, 50, 50])
 }
 
@@ -93,9 +93,15 @@ fn good(text: impl AsRef<[u8]>) {
     assert_eq!(a, read(A).unwrap(), "{}", shown);
 }
 
-fn refused(refusal: u32, text: impl AsRef<[u8]>) {
+/// Without a place.
+fn refused(number: u32, text: impl AsRef<[u8]>) {
     let text = text.as_ref();
-    assert_eq!(read(text).map(|read| read.kernel), Err(refusal), "{}", String::from_utf8_lossy(text));
+    assert_eq!(read(text).map(|read| read.kernel), err(number), "{}", String::from_utf8_lossy(text));
+}
+
+fn refused_at(number: u32, place: usize, text: impl AsRef<[u8]>) {
+    let text = text.as_ref();
+    assert_eq!(read(text).map(|read| read.kernel), err_at(number, place), "{}", String::from_utf8_lossy(text));
 }
 
 /// Table A with more lines in its data block: before all others, and behind them.
@@ -142,15 +148,15 @@ fn starred_cases() {
     let partitions = Partitions { start: &starts, end: &ends };
     let segments = Segments { count: &counts, time: &times, rate: &rates };
     assert_eq!([read_text(&layout, b"12.3"), read_text(&layout, b"5.13")], [Ok(123), Ok(63)]);
-    assert_eq!([read_text(&layout, b".5"), read_text(&layout, b"12..")], [Err(6), Err(7)]);
+    assert_eq!([read_text(&layout, b".5"), read_text(&layout, b"12..")], [err(6), err_at(7, 4)]);
     assert_eq!(read_stamp(&layout, partitions, b"1/50.0"), Ok(500));
-    assert_eq!(read_stamp(&layout, partitions, b"1/50.1"), Err(11));
+    assert_eq!(read_stamp(&layout, partitions, b"1/50.1"), err(11));
     assert_eq!(read_stamp(&layout, partitions, b"50.1"), Ok(801));
     assert_eq!(printed_stamp(&layout, partitions, 500).unwrap(), "2/20.0");
     assert_eq!(printed_stamp(&layout, partitions, 1_200).unwrap(), "2/90.0");
     assert_eq!(time_of(&layout, partitions, segments, 1), Ok(-997));
     let at = |t| count_at(&layout, partitions, segments, t);
-    assert_eq!([at(-997), at(700), at(2_803)], [Ok(1), Ok(599), Err(14)]);
+    assert_eq!([at(-997), at(700), at(2_803)], [Ok(1), Ok(599), err(14)]);
     let bench = A
         .replace("100 10 )", "65536 60 800 )")
         .replace("( 0 0 )", "( 0 0 1 )")
@@ -179,18 +185,18 @@ fn galileo() {
     for list in 0..7 {
         let mut lent = [4, 4, 4, 4, 35, 35, 35];
         lent[list] -= 1;
-        assert_eq!(read_into(GALILEO, 77, lent), Err(16));
+        assert_eq!(read_into(GALILEO, 77, lent), err(16));
     }
-    assert_eq!(read_into(GALILEO, 7, [50; 7]), Err(19));
+    assert_eq!(read_into(GALILEO, 7, [50; 7]), err(19));
 }
 
 /// Its rates have 14 decimals.
 #[test]
 fn mars_global_surveyor() {
     for clock in [94, -94] {
-        assert_eq!(read_into(MARS_GLOBAL_SURVEYOR, clock, [50; 7]), Err(20));
+        assert_eq!(read_into(MARS_GLOBAL_SURVEYOR, clock, [50; 7]), err(20));
     }
-    assert_eq!(read_into(MARS_GLOBAL_SURVEYOR, 77, [50; 7]), Err(19));
+    assert_eq!(read_into(MARS_GLOBAL_SURVEYOR, 77, [50; 7]), err(19));
     // With the three blanks before each line, as the pages show them.
     let shown: Vec<u8> = GALILEO.split(|&byte| byte == 10).flat_map(|line| [b"   ", line, b"\n"].concat()).collect();
     refused(18, shown);
@@ -370,11 +376,11 @@ fn reading_10_names() {
     {
         let text = A.replace("_77", ending);
         assert!(read_into(text.as_bytes(), clock, [2; 7]).is_ok(), "{}", clock);
-        assert_eq!(read_into(text.as_bytes(), 77, [2; 7]), Err(19));
+        assert_eq!(read_into(text.as_bytes(), 77, [2; 7]), err(19));
     }
     for clock in [100_000_000_000, -100_000_000_000, i64::MAX, i64::MIN] {
         let text = A.replace("_77", &format!("_{}", clock.unsigned_abs()));
-        assert_eq!(read_into(text.as_bytes(), clock, [2; 7]), Err(19));
+        assert_eq!(read_into(text.as_bytes(), clock, [2; 7]), err(19));
     }
     for name in NAMES.iter().chain(&["SCLK_KERNEL_ID"]) {
         let line = A.lines().find(|line| line.starts_with(name)).unwrap();
@@ -441,14 +447,20 @@ fn reading_13_19_before_20_before_others() {
     refused(20, half.replace("DELIM_77 = ( 1 )", "DELIM_77 = ( 6 )"));
     refused(20, half.replace("900", "1000"));
     refused(20, half.replace("25E-9", "1E-12"));
-    assert_eq!(read_into(half.as_bytes(), 77, [0; 7]), Err(20));
+    assert_eq!(read_into(half.as_bytes(), 77, [0; 7]), err(20));
     good_lines(&["X = 1E400", "X = ( 1E-400 0.5 -1 )"]);
     // 1 before 2 before 3 before 16.
     let one = set("SCLK01_OUTPUT_DELIM_77", "6").replace("900", "1000").replace("25E-9", "1E-12");
     let two = A.replace("900", "1000").replace("25E-9", "1E-12");
     let three = A.replace("25E-9", "1E-12");
-    for (refusal, text) in [(1, one), (2, two), (3, three), (16, A.to_string()), (18, A[1..].replace("DELIM", "X"))] {
-        assert_eq!(read_into(text.as_bytes(), 77, [0; 7]), Err(refusal));
+    for (refusal, text) in [
+        (err(1), one),
+        (err_at(2, 1), two),
+        (err_at(3, 0), three),
+        (err(16), A.to_string()),
+        (err(18), A[1..].replace("DELIM", "X")),
+    ] {
+        assert_eq!(read_into(text.as_bytes(), 77, [0; 7]), refusal);
     }
 }
 
@@ -464,13 +476,13 @@ fn reading_14_64_bits() {
         refused(1, set("SCLK01_OUTPUT_DELIM_77", delimiter));
     }
     refused(20, set("SCLK01_OUTPUT_DELIM_77", "18446744073709551616"));
-    refused(3, A.replace("-1E-6", "-9223372036.854775808"));
+    refused_at(3, 0, A.replace("-1E-6", "-9223372036.854775808"));
     refused(20, A.replace("-1E-6", "-9223372036.854775809"));
-    refused(3, A.replace(" 1E-6", " 9223372036.854775807"));
+    refused_at(3, 1, A.replace(" 1E-6", " 9223372036.854775807"));
     refused(20, A.replace(" 1E-6", " 9223372036.854775808"));
-    refused(3, A.replace("25E-9", "18446744.073709551615"));
+    refused_at(3, 0, A.replace("25E-9", "18446744.073709551615"));
     refused(20, A.replace("25E-9", "18446744.073709551616"));
-    refused(2, A.replace("900", "18446744073709551615"));
+    refused_at(2, 1, A.replace("900", "18446744073709551615"));
     refused(20, A.replace("900", "18446744073709551616"));
 }
 
@@ -479,7 +491,7 @@ fn reading_15_exactly_as_written() {
     good(A.replace("900", &format!("900{}E-80", "0".repeat(80))));
     assert_eq!(read(A.replace("25E-9", "25.001E-9")).unwrap().rates, [25_001, 30_000]);
     refused(20, A.replace("25E-9", "25.0001E-9"));
-    refused(3, A.replace("25E-9", "0E99999999999999999999"));
+    refused_at(3, 0, A.replace("25E-9", "0E99999999999999999999"));
     for rate in ["1E99999999999999999999", "1E-99999999999999999999"] {
         refused(20, A.replace("25E-9", rate));
     }
@@ -503,19 +515,19 @@ fn reading_15_exactly_as_written() {
 #[test]
 fn reading_16_lengths_of_lists() {
     for more in ["700", "700 0.000000001"] {
-        refused(3, A.replace("30E-9", &["30E-9 ", more].concat()));
+        refused_at(3, 2, A.replace("30E-9", &["30E-9 ", more].concat()));
     }
     refused(20, A.replace("30E-9", "30E-9 700 0.0000000001"));
     refused(20, A.replace("30E-9", "30E-9 0.000000001"));
-    refused(3, A.replace(" 1E-6 30E-9", ""));
+    refused_at(3, 1, A.replace(" 1E-6 30E-9", ""));
     for name in ["SCLK01_MODULI_77", "SCLK01_OFFSETS_77"] {
         refused(1, set(name, "0"));
         refused(1, set(name, "( 5 5 5 )"));
     }
     refused(1, set("SCLK01_N_FIELDS_77", "1"));
     refused(1, set("SCLK01_N_FIELDS_77", "3"));
-    refused(2, set("SCLK_PARTITION_START_77", "0"));
-    refused(2, set("SCLK_PARTITION_END_77", "( 500 900 900 )"));
+    refused_at(2, 1, set("SCLK_PARTITION_START_77", "0"));
+    refused_at(2, 2, set("SCLK_PARTITION_END_77", "( 500 900 900 )"));
 }
 
 #[test]
@@ -526,7 +538,7 @@ fn reading_17_lent_lists() {
             for others in [2, 3, 40] {
                 let mut lent = [others; 7];
                 lent[list] = short;
-                assert_eq!(read_into(A.as_bytes(), 77, lent), Err(16));
+                assert_eq!(read_into(A.as_bytes(), 77, lent), err(16));
             }
         }
     }
@@ -550,9 +562,9 @@ fn the_longest_lists() {
         |partitions, segments, lent| read_into(text(partitions, segments).as_bytes(), 77, lent).map(|read| read.kernel);
     let kernel = read(9_999, 10_000, lent).unwrap();
     assert_eq!((kernel.partitions, kernel.segments), (9_999, 10_000));
-    assert_eq!(read(10_000, 10_000, lent), Err(2));
-    assert_eq!(read(9_999, 10_001, lent), Err(3));
-    assert_eq!(read(9_999, 10_000, [2, 2, 9_999, 9_999, 10_000, 10_000, 9_999]), Err(16));
+    assert_eq!(read(10_000, 10_000, lent), err_at(2, 10_000));
+    assert_eq!(read(9_999, 10_001, lent), err_at(3, 10_001));
+    assert_eq!(read(9_999, 10_000, [2, 2, 9_999, 9_999, 10_000, 10_000, 9_999]), err(16));
 }
 
 /// However the digits and the exponent share the number out.

@@ -23,7 +23,7 @@ fn reading_a_print_gives_its_count() {
                     assert!(count < p);
                     assert_eq!(read_text(&layout, &lent[..len]), Ok(count));
                 }
-                Err(refusal) => assert!(refusal == 9 && count >= p),
+                Err(refusal) => assert!(refusal == Refusal::new(9) && count >= p),
             }
             let mut e = random.between(0, total);
             if random.chance(30) {
@@ -39,7 +39,7 @@ fn reading_a_print_gives_its_count() {
                     assert_eq!(read_stamp(&layout, partitions, &lent[..len]), Ok(e));
                     longest = longest.max(len);
                 }
-                Err(refusal) => assert!(refusal == 12 && e > total),
+                Err(refusal) => assert!(refusal == Refusal::new(12) && e > total),
             }
         }
     }
@@ -77,8 +77,8 @@ fn times_by_their_definition() {
                         returns += 1;
                     }
                 }
-                Err(12) => assert!(e > total),
-                Err(13) => assert!(e < count[0]),
+                Err(Refusal { number: 12, place: None }) => assert!(e > total),
+                Err(Refusal { number: 13, place: None }) => assert!(e < count[0]),
                 other => panic!("{:?}", other),
             }
             let mut t = time[0] + random.magnitude(1 << 40) as i64;
@@ -98,9 +98,11 @@ fn times_by_their_definition() {
                     }
                     counts += 1;
                 }
-                Err(13) => assert!(i.is_none()),
-                Err(14) if !(-common::LATEST..=common::LATEST).contains(&t) => beyond += 1,
-                Err(14) => {
+                Err(Refusal { number: 13, place: None }) => assert!(i.is_none()),
+                Err(Refusal { number: 14, place: None }) if !(-common::LATEST..=common::LATEST).contains(&t) => {
+                    beyond += 1
+                }
+                Err(Refusal { number: 14, place: None }) => {
                     // The last segment's line is past the total by a whole tick.
                     let i = i.unwrap();
                     assert_eq!(i, time.len() - 1);

@@ -27,6 +27,7 @@ const KERNELS: &[&str] = &[
     "20, n below 0|20, delimiter below 0|20, modulus below 0|20, offset below 0|20, start below 0|20, end below 0\
      |20, count below 0|20, time too small|20, rate below 0|20, before 1|20",
     "1, lists not n long|1, before 2|1|2, before 3|2|3, not in threes|3, before 16|3",
+    "3, 4 coefficients|3, 5 coefficients|3, 7 coefficients|3, 8 coefficients",
     "16, moduli|16, offsets|16, starts|16, ends|16, counts|16, times|16, rates|16, all",
 ];
 
@@ -38,8 +39,24 @@ const RARE: &[&str] = &[
      |19, before 16|20, before 2|20, before 3|20, before 16|1, before 3|1, before 16|2, before 16",
 ];
 
-/// Rules that kernel text cannot break: each name has a value, and 10,001 rows are too long for a line.
-const NO_KERNEL: &[&str] = &["2: no row", "2: over 9,999 rows", "3: no row", "3: over 10,000 rows", "3: unequal lists"];
+/// Rules that kernel text cannot break: each name has a value, and 10,001 rows are too long for a line. Segments' lists of
+/// unequal length are coefficients that are not in threes.
+const NO_KERNEL: &[&str] = &[
+    "2: no row",
+    "2: no starts",
+    "2: no ends",
+    "2: over 9,999 rows",
+    "3: no row",
+    "3: over 10,000 rows",
+    "3: no counts",
+    "3: no times",
+    "3: no rates",
+    "3: no entries in two lists",
+    "3: counts are shortest",
+    "3: times are shortest",
+    "3: rates are shortest",
+    "3: two lists are shortest",
+];
 
 fn kernels(lists: &[&str]) -> Vec<String> {
     let outcome = |outcome: &str| match outcome.strip_prefix("ok") {
@@ -53,7 +70,7 @@ fn kernels(lists: &[&str]) -> Vec<String> {
 fn outcomes() -> Vec<String> {
     let text = "1|5, a byte|5, a slash|6|7|8|9, field|9, sum";
     let stamp = "2|5, front part|10, zero|10, above|11, named|11, in none";
-    let message = "17, under 2 bytes|17, L is 0|17, L above 96|17, L above 96 and too far|17, L too far";
+    let message = "21|22|22, in two bytes|23, 97|23, above 97|23, above 96 and too far|23, too far|23, too far by one";
     let double = "15, MSF 0|15, MSF above 10^12|15, count not finite|15, time not finite|15, rate not finite\
                   |15, rate not above 0|15, rate/MSF zero|15, before|15, result not finite";
     let mut all = vec![];
@@ -85,14 +102,24 @@ const RULES: &[&str] = &[
     "1: P above 10^15",
     "1: MSF above 10^12",
     "1: delimiter",
-    "2: unequal lists",
+    "2: starts are shortest",
+    "2: ends are shortest",
+    "2: no starts",
+    "2: no ends",
     "2: no row",
     "2: over 9,999 rows",
     "2: start is end",
     "2: start above end",
     "2: end not below P",
     "2: total above 10^15",
-    "3: unequal lists",
+    "3: counts are shortest",
+    "3: times are shortest",
+    "3: rates are shortest",
+    "3: two lists are shortest",
+    "3: no counts",
+    "3: no times",
+    "3: no rates",
+    "3: no entries in two lists",
     "3: no row",
     "3: over 10,000 rows",
     "3: equal counts",
@@ -107,6 +134,64 @@ const RULES: &[&str] = &[
     "3: an inner line too late",
     "3: the last line too late",
 ];
+
+/// What places show, in each call with the clauses that its text can have.
+fn places() -> Vec<String> {
+    let bytes = "5, a byte|5, a byte, blanks before|5, a byte, another behind it|5, a byte, and too many fields";
+    let slash = "5, a slash|5, a slash, blanks before|5, a slash, another behind it|5, a slash, and too many fields";
+    let front = "5, a mark in front|5, a mark in front, blanks before|5, a mark in front, a byte behind it in front\
+                 |5, a mark in front, another in the text|5, a byte in front|5, a byte in front, blanks before\
+                 |5, a byte in front, a byte behind it in front|5, a byte in front, another in the text\
+                 |5, a second number|5, a second number, a byte behind it in front|5, a second number, another in the text\
+                 |5, an empty front part|5, an empty front part, another in the text|5, a blank front part\
+                 |5, a blank front part, another in the text|5, a second slash|5, a second slash, another behind it\
+                 |5, a byte, behind a front part";
+    let fields = "7, there|7, there, leading zeros|7, there, directly behind blanks|7, there, more behind it\
+                  |7, there, digits behind it|7, empty|7, empty, blanks at the end|7, empty, more behind it\
+                  |7, empty, digits behind it\
+                  |8, first field|8, first field, blanks before|8, first field, leading zeros|8, later field\
+                  |8, later field, leading zeros|8, later field, directly behind blanks\
+                  |9, first field|9, first field, blanks before|9, first field, leading zeros|9, later field\
+                  |9, later field, leading zeros|9, later field, directly behind blanks|9, sum|9, sum, blanks at the end";
+    let behind = "7, there, behind a front part|7, empty, behind a front part\
+                  |7, empty, behind a front part and blanks at the end|8, first field, behind a front part\
+                  |8, later field, behind a front part|9, first field, behind a front part|9, later field, behind a front part\
+                  |9, sum, behind a front part|9, sum, behind a front part and blanks at the end";
+    let payload = "5, behind a payload|7, behind a payload|8, behind a payload|9, behind a payload";
+    let mut all = vec![];
+    for (call, lists) in [
+        ("read-text", vec![bytes, slash, fields]),
+        ("read-stamp", vec![bytes, front, fields, behind]),
+        ("read-message", vec![bytes, front, fields, behind, payload]),
+    ] {
+        all.extend(lists.iter().flat_map(|list| list.split('|')).map(|label| format!("{} {}", call, label)));
+    }
+    // Rules broken alone, and where they can be.
+    for (places, rules) in [
+        (
+            "the first|an inner|the last",
+            "2: start is end|2: start above end|2: end not below P|3: a time too late|3: a rate too low|3: a rate too high",
+        ),
+        ("an inner|the last", "2: total above 10^15|3: equal counts|3: a count goes back|3: equal times|3: a time goes back"),
+        ("the first|an inner", "3: an inner line too late"),
+        ("the first", "3: a time too early"),
+        ("the last", "3: last count above the total|3: the last line too late"),
+    ] {
+        for rule in rules.split('|') {
+            all.extend(places.split('|').map(|place| format!("{}, {} row", rule, place)));
+        }
+    }
+    // Two rules at two rows, either one at the earlier; a count above the total is at the last.
+    let kinds = ["a time's range", "a rate", "counts", "times", "a line", "the last count"];
+    for (number, kinds) in [(2, &["a start", "an end", "the total"][..]), (3, &kinds)] {
+        for early in kinds.iter().filter(|&&kind| kind != "the last count") {
+            let late = kinds.iter().filter(|&late| late != early);
+            all.extend(late.map(|late| format!("{}: {} before {}", number, early, late)));
+        }
+    }
+    all.extend(["2 0", "2 1", "2 2", "3 0", "3 1", "3 2"].map(|place| format!("read-kernel {}", place)));
+    all
+}
 
 /// A rule as the clause of a kernel text's refusal.
 fn kernel_rule(rule: &str) -> String {
@@ -123,7 +208,7 @@ fn every_outcome_comes_up() {
     assert!(tally.kernels >= 3_000);
     assert!(tally.kernels_answered * 100 >= tally.kernels * 40, "{} of {}", tally.kernels_answered, tally.kernels);
     assert!(tally.unexpected.is_empty(), "{:?}", tally.unexpected);
-    assert!(script.len() + answers(&script).len() < 11_000_000, "{} bytes", script.len());
+    assert!(script.len() + answers(&script).len() < 11_500_000, "{} bytes", script.len());
     let mut outcomes = outcomes();
     outcomes.extend(kernels(KERNELS));
     outcomes.extend(RULES.iter().filter(|rule| !NO_KERNEL.contains(rule)).map(|rule| kernel_rule(rule)));
@@ -135,12 +220,16 @@ fn every_outcome_comes_up() {
         let times = tally.rules.get(rule).copied().unwrap_or(0);
         assert!(times >= FEWEST, "{} samples of rule {}", times, rule);
     }
+    for label in &places() {
+        let times = tally.places.get(label).copied().unwrap_or(0);
+        assert!(times >= FEWEST, "{} samples of place {}", times, label);
+    }
     let rare = kernels(RARE);
     for outcome in &rare {
         assert!(tally.outcomes.contains_key(outcome), "no sample of {}", outcome);
     }
     outcomes.extend(rare);
-    outcomes.push(kernel_rule("3: unequal lists"));
+    outcomes.extend(["3: rates are shortest", "3: two lists are shortest"].map(kernel_rule));
     // And no other outcome, such as 4 from a message; several faults of a double at once are left out here.
     for outcome in tally.outcomes.keys().filter(|outcome| !outcome.ends_with("several")) {
         assert!(outcomes.contains(outcome), "{}", outcome);
@@ -161,6 +250,7 @@ fn a_seed_gives_one_script() {
         let tally = tally(&script);
         let lines = answers(&script).iter().filter(|&&byte| byte == 10).count() as u64;
         assert!(tally.questions >= 500);
+        assert!(tally.unexpected.is_empty(), "{:?}", tally.unexpected);
         assert_eq!(tally.questions + tally.bad_lines, lines);
     }
     // Random kernel texts: answered in the main, and short.

@@ -45,9 +45,25 @@ fn refusals() {
          print-stamp 500 9 0\nprint-stamp 1201 9 0\ntime-of 1201\ncount-at 2803\ncount-at -1001\n\
          forward 7ff8000000000001 4059000000000000 3ff0000000000000 256 512\n",
     );
-    let expected = "refused 6\nrefused 11\nrefused 17\nrefused 9 0101\nrefused 16 ffffff\nrefused 16 .\nrefused 12 .\n\
+    let expected = "refused 6\nrefused 11\nrefused 23\nrefused 9 0101\nrefused 16 ffffff\nrefused 16 .\nrefused 12 .\n\
                     refused 12\nrefused 14\nrefused 13\nrefused 15\n";
     assert_eq!(answers, expected);
+}
+
+/// Request 3: "A refusal with a place has it behind the number."
+#[test]
+fn places() {
+    let answers = ask_a(
+        "read-text 312e322e33\nread-stamp 312e322f33\nread-message 07d031780002\nread-text 31303030303030303030303030303031\n\
+         read-message 00\nread-message 0000\nread-message 310003\nend 1000\nprint-stamp 5 46 3\nread-stamp 2f\nstart 0\n\
+         print-stamp 5 46 3\nprint-stamp 5 46 0\nsteps-back\nprint-count 1000 46 2\n",
+    );
+    let expected = "refused 7 4\nrefused 5 1\nrefused 5 1\nrefused 9 16\n\
+                    refused 21\nrefused 22\nrefused 23\nrefused 2 2 2e2e2e\nrefused 2 2\n\
+                    refused 2 2 2e2e2e\nrefused 2 2 .\nrefused 2 2\nrefused 9 2e2e\n";
+    assert_eq!(answers, expected);
+    let answers = ask_a("count 1201\ntime-of 0\ntime 5000\nrate 10000\ncount-at 0\nsegments\nsteps-back\n");
+    assert_eq!(answers, "refused 3 2\nrefused 3 2\nrefused 3 0\n");
 }
 
 #[test]
@@ -55,7 +71,7 @@ fn at_the_start_nothing_is_there() {
     assert_eq!(ask("read-text 31\nprint-stamp 0 1 1\nsteps-back"), "refused 1\nrefused 1 01\nrefused 1\n");
     assert_eq!(
         ask("layout 1 1 5 0 0 0 0 0 0 0 0 0 0 0 0 0 0 0 0 0 0 0\nread-text 31\nsteps-back\n"),
-        "ok 1\nrefused 2\n"
+        "ok 1\nrefused 2 0\n"
     );
 }
 
@@ -144,6 +160,11 @@ fn kernel_questions() {
     let expected = "ok 2 1 2 2 2 100,10,99 0,0,99 0,200 500,900 0,600,99 -1000,1000 25000,30000\n\
                     refused 16 99 . 99,99 99,99 99,99,99 99,99 99,99\n";
     assert_eq!(answers, expected);
+    // Places of 2 and 3, and none of 16: an end of 1000 for 900; a seventh coefficient.
+    let end = a.replace("35303020393030", "3530302031303030");
+    assert_eq!(ask(&format!("read-kernel 7 1 0 1 0 0 1 0 {}", end)), "refused 2 1 99 . 99 . . 99 .\n");
+    let surplus = a.replace("3330452d3929", "3330452d39203729");
+    assert_eq!(ask(&format!("read-kernel 7 0 0 0 0 1 0 1 {}", surplus)), "refused 3 2 . . . . 99 . 99\n");
     // The script's tables are neither asked nor changed.
     let before = "time-of 600\nread-stamp 35302e31\nsteps-back\n";
     assert_eq!(ask_a(&format!("{}read-kernel 7 2 2 2 2 2 2 2 4b\n{}", before, before)).lines().count(), 7);

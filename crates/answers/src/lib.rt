@@ -92,15 +92,22 @@ pub fn put_print(out: &mut [u8], at: usize, answer: PrintAnswer, lent: &[u8]) ->
     ensures { λ r. ⌜ Put at (now (out .entry)) r ⌝ }
 {
     match answer {
-        PrintAnswer::Length(length) => put_lent(out, at, b"ok ", length as u64, lent),
-        PrintAnswer::Refused(refusal) => put_lent(out, at, b"refused ", refusal.number, lent),
+        PrintAnswer::Length(length) => {
+            let place = put_word(out, at, b"ok ", length as u64);
+            put_lent(out, place, lent)
+        }
+        PrintAnswer::Refused(refusal) => {
+            let place = put::refusal(out, at, refusal);
+            put_lent(out, place, lent)
+        }
     }
 }
 
 fn put_refused(out: &mut [u8], at: usize, refusal: Refusal) -> usize
     ensures { λ r. ⌜ Put at (now (out .entry)) r ⌝ }
 {
-    put_number(out, at, b"refused ", refusal.number)
+    let place = put::refusal(out, at, refusal);
+    put::byte(out, place, LINE_END)
 }
 
 fn put_number(out: &mut [u8], at: usize, head: &[u8], number: u64) -> usize
@@ -133,11 +140,10 @@ fn to_bits(double: f64) -> u64 {
     NAN
 }
 
-fn put_lent(out: &mut [u8], at: usize, head: &[u8], number: u64, lent: &[u8]) -> usize
+fn put_lent(out: &mut [u8], at: usize, lent: &[u8]) -> usize
     ensures { λ r. ⌜ Put at (now (out .entry)) r ⌝ }
 {
-    let place = put_word(out, at, head, number);
-    let place = put::byte(out, place, BLANK);
+    let place = put::byte(out, at, BLANK);
     let place = put::hex(out, place, lent);
     put::byte(out, place, LINE_END)
 }

@@ -1,22 +1,27 @@
 -- What the scans of specs/Scans.antt find. Every use of a scan goes by these laws and none unfolds it.
 --     all-at, all-from            `allBelow p n` and each number below n
---     all-next, all-out           one turn of a loop that tests each number
+--     all-out                     one number that fails
 --     some-at, some-none          `someBelow p n` and each number below n
 --     first-found, first-missing, first-is, first-none     `firstBelow`
+--     first-not-found, first-not-missing, first-not-is, first-not-none     `firstNot`
 --     last-found, last-missing, last-is, last-none         `lastBelow`
 --     sum-next, sum-same, sum-up  `sumBelow`
 use Prim.Native.Nat.{ℕ, zero, suc, _+_, _-_, _≤_, _<_}
 use mathlib.Core.Path.{_≡_, refl, sym, subst, _∙_}
-use mathlib.Core.Bool.{Bool, true, false, cond}
-use mathlib.Core.Option.{none, some, Option·none-ne-some, Option·some-ne-none}
+use mathlib.Core.Bool.{Bool, true, false, not, cond}
+use mathlib.Core.Option.{Option, none, some, Option·none-ne-some, Option·some-ne-none}
 use mathlib.Core.Logic.{_⊎_, inl, inr, ⊎-elim}
 use native.Mathlib.Nat.{eq-or-lt-of-le, le-refl}
 use native.Mathlib.Numerals.{add-one}
 use native.Mathlib.Omega.{arith}
-use borrow.Author.Tests.{eqb-true, eqb-false}
+use borrow.Author.Tests.{eqb-true, eqb-false, not-true, not-false}
 use lib.Dec.{eqb}
-use Rattle.base.specs.Scans.{allBelow, someBelow, firstBelow, lastBelow, orElse, sumBelow}
+use Rattle.base.specs.Scans.{allBelow, someBelow, firstBelow, firstNot, isNone, lastBelow, orElse, sumBelow}
 use Rattle.base.proofs.Tests.{by-test, not-both, and-both, and-first, and-second, or-first, or-second, or-neither}
+
+pub nothing : (o : Option ℕ) → isNone o ≡ true → o ≡ none
+nothing none h = refl
+nothing (some i) h = absurd (not-both h refl)
 
 -- a fact of each number below n and of n is one of each number below n + 1
 below-suc : {A : ℕ → Type 0} {n : ℕ} → ((i : ℕ) → i < n → A i) → A n → (i : ℕ) → i < suc n → A i
@@ -40,10 +45,6 @@ module _ (p : ℕ → Bool) where
   pub all-start : allBelow p 0 ≡ true
   unfolding allBelow
   all-start = refl
-
-  pub all-next : (n : ℕ) → allBelow p n ≡ true → p n ≡ true → allBelow p (n + 1) ≡ true
-  unfolding allBelow
-  all-next n h t = rw add-one (and-both h t)
 
   pub all-out : (n i : ℕ) → i < n → p i ≡ false → allBelow p n ≡ false
   all-out n i l f = by-test (allBelow p n) (λ t. absurd (not-both (all-at n i t l) f)) (λ e. e)
@@ -177,6 +178,32 @@ module _ (p : ℕ → Bool) where
   pub last-missing : (n i : ℕ) → lastBelow p n ≡ none → i < n → p i ≡ false
   last-missing n i e l =
       ⊎-elim (λ w. absurd (Option·some-ne-none (w .0) (sym (last-is n (w .0) (w .1)) ∙ e))) (λ f. f i l) (last-or n)
+
+-- the first of which p does not hold
+module _ (p : ℕ → Bool) where
+  -- what `firstNot p n ≡ some i` says
+  pub record FirstNot (n i : ℕ) : Type 0 where
+    pub below : i < n
+    pub fails-here : p i ≡ false
+    pub before : (j : ℕ) → j < i → p j ≡ true
+
+  pub first-not-none : (n : ℕ) → ((i : ℕ) → i < n → p i ≡ true) → firstNot p n ≡ none
+  unfolding firstNot
+  first-not-none n f = first-none (λ i. not (p i)) n (λ i h. rw (f i h))
+
+  pub first-not-is : (n i : ℕ) → FirstNot n i → firstNot p n ≡ some i
+  unfolding firstNot
+  first-not-is n i w = first-is (λ i. not (p i)) n i (record { below = w .below; holds = rw (w .fails-here); before = λ j h. rw (w .before j h) })
+
+  pub first-not-missing : (n i : ℕ) → firstNot p n ≡ none → i < n → p i ≡ true
+  unfolding firstNot
+  first-not-missing n i e l = not-false (p i) (first-missing (λ i. not (p i)) n i e l)
+
+  pub first-not-found : (n i : ℕ) → firstNot p n ≡ some i → FirstNot n i
+  unfolding firstNot
+  first-not-found n i e =
+      let w = first-found (λ i. not (p i)) n i e in
+      record { below = w .below; fails-here = not-true (p i) (w .holds); before = λ j h. not-false (p j) (w .before j h) }
 
 -- one turn of a loop that looks for the last from the top
 module _ (p : ℕ → Bool) where

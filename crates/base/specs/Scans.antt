@@ -1,7 +1,7 @@
 -- Scans over the numbers below a bound: all, some, the first, the last, a sum, a product over a list.
 -- A table is lists of one length, so a rule on its rows is a scan below that length.
 use Prim.Native.Nat.{ℕ, zero, suc, _+_, _*_}
-use mathlib.Core.Bool.{Bool, true, false, _&&_, _||_, cond}
+use mathlib.Core.Bool.{Bool, true, false, not, _&&_, _||_, cond}
 use mathlib.Core.List.{List, [], _∷_}
 use mathlib.Core.Option.{Option, none, some}
 use lib.Dec.{eqb}
@@ -26,6 +26,15 @@ orElse none false n = none
 unfoldable pub firstBelow : (ℕ → Bool) → ℕ → Option ℕ
 firstBelow p zero = none
 firstBelow p (suc n) = orElse (firstBelow p n) (p n) n
+
+-- the first number below n of which p does not hold
+unfoldable pub firstNot : (ℕ → Bool) → ℕ → Option ℕ
+firstNot p n = firstBelow (λ i. not (p i)) n
+
+-- nothing is found
+abbrev pub isNone : Option ℕ → Bool
+isNone none = true
+isNone (some i) = false
 
 -- the last number below n of which p holds
 unfoldable pub lastBelow : (ℕ → Bool) → ℕ → Option ℕ

@@ -74,7 +74,7 @@ fn put_answer(out: &mut [u8], at: usize, answer: KernelAnswer) -> usize
 {
     match answer {
         KernelAnswer::Read(kernel) => put_read(out, at, kernel),
-        KernelAnswer::Refused(refusal) => put_word(out, at, b"refused ", refusal.number),
+        KernelAnswer::Refused(refusal) => put::refusal(out, at, refusal),
     }
 }
 

@@ -6,16 +6,14 @@ use mathlib.Core.List.{List, [], _∷_, map}
 use lib.IntN.{ℤ}
 use lib.ListN.{drop, getD}
 use borrow.Author.Tests.{not-true, not-false}
-use native.Mathlib.Omega.{arith}
 use Rattle.base.proofs.Tests.{by-test, and-first, and-second}
-use Rattle.rules.specs.declared.Refusal.{Refusal}
 use Rattle.rules.specs.Answer.{unless, numbered}
 use Rattle.kernel_rules.specs.declared.Stage.the-variants.{Comment}
 use Rattle.kernel_rules.specs.Lines.{kernelLines}
 use Rattle.kernel_rules.specs.Assignments.{afterLines, endsWell}
 use Rattle.kernel_rules.specs.Names.{Assignment, given, names}
 use Rattle.kernel_rules.specs.Tables.{Tables, every, values, valuesGiven, assignmentsOk, exactOk, tablesOf, isSigned, signed, inNanoseconds, timesIn}
-use Rattle.kernel_tables.specs.Given.{clipped}
+use Rattle.kernel_tables.specs.Given.{clipped, keptOf}
 use Rattle.kernel_find.specs.declared.Found.{Found}
 use Rattle.kernel_find.specs.Slots.{formOk, slotAt, FoundAll}
 use Rattle.kernel_values.specs.Reads.{signedOr0, timesOf}
@@ -26,8 +24,8 @@ use Rattle.kernel_heading.specs.declared.Heading.{Heading}
 use Rattle.kernel_listing.specs.declared.Listing.{Listing}
 use Rattle.kernel_heading.specs.Names.{headingOf}
 use Rattle.kernel_listing.specs.Lists.{listsExact}
-use Rattle.kernel_listing.specs.Listed.{Filled, ListsKept}
-use Rattle.kernel_gather.specs.Gathered.{assignedTables, kept, tablesIn, gathered, gatheredOf, settled, AllWithin}
+use Rattle.kernel_listing.specs.Listed.{ListsKept}
+use Rattle.kernel_gather.specs.Gathered.{assignedTables, kept, keptIn, gathered, gatheredOf, settled}
 use Rattle.kernel_gather.proofs.Ladder.{bad-form, bad-heading, bad-lists, all-good, inexact-heading, inexact-lists, all-exact, tables-are, lists-facts}
 
 -- what `settle` answers
@@ -57,12 +55,6 @@ times-same [] h = refl
 times-same (v ∷ vs) h =
     rw (and-first (isSigned (inNanoseconds v)) (every (λ v. isSigned (inNanoseconds v)) vs) h, times-same vs (and-second (isSigned (inNanoseconds v)) (every (λ v. isSigned (inNanoseconds v)) vs) h))
 
-pub refused-within : (k : Refusal) → AllWithin (Refused k)
-refused-within k = record { given = λ g e. absurd (other e) }
-  where
-    other : {g : Gathered} → _≡_ {A = GatherAnswer} (Refused k) (Given g) → ⊥
-    other e = let z : _≡_ {A = ℕ} 0 1 = cc in omega arith
-
 module _ (digits : List ℕ) (ls : List (List ℕ)) (ms os ss es cs : List ℕ) (ts : List ℤ) (rs : List ℕ) where
   abbrev goal : GatherAnswer → Type 0
   goal r = gathered r ms os ss es cs ts rs ≡ kept (assignedTables digits ls)
@@ -75,7 +67,7 @@ module _ (digits : List ℕ) (ls : List (List ℕ)) (ms os ss es cs : List ℕ) 
   unfolding assignedTables unless kept gathered
   refuse-20 t f = rw (t, f)
 
-  all-given : (g : Gathered) → assignmentsOk digits ls ≡ true → exactOk (values digits ls) ≡ true → tablesIn g ms os ss es cs ts rs ≡ clipped (tablesOf (values digits ls)) → goal (Given g)
+  all-given : (g : Gathered) → assignmentsOk digits ls ≡ true → exactOk (values digits ls) ≡ true → keptIn g ms os ss es cs ts rs ≡ keptOf (tablesOf (values digits ls)) → goal (Given g)
   unfolding assignedTables unless kept gathered
   all-given g t e same = rw (t, e, same)
 
@@ -112,13 +104,29 @@ module _ (digits : List ℕ) (ls : List (List ℕ)) (ms os ss es cs : List ℕ) 
                 lists = tablesOf (λ k. valuesGiven (at k)) .lists;
               }
 
-          kept-read : listsExact at ≡ true → tablesIn (gatheredOf head lists) ms os ss es cs ts rs ≡ clipped read
-          unfolding clipped tablesOf
+          kept-read : listsExact at ≡ true → keptIn (gatheredOf head lists) ms os ss es cs ts rs ≡ keptOf read
+          unfolding keptOf clipped tablesOf
           kept-read x =
-              rw (k .moduli, k .offsets, k .starts, k .ends, k .counts, k .times, k .rates, eh, times-same (timesIn (valuesGiven (at 7))) (lists-facts at x .times))
+              let n = k .counted in
+              rw (
+                k .moduli,
+                k .offsets,
+                k .starts,
+                k .ends,
+                k .counts,
+                k .times,
+                k .rates,
+                n .starts,
+                n .ends,
+                n .counts,
+                n .times,
+                n .rates,
+                eh,
+                times-same (timesIn (valuesGiven (at 7))) (lists-facts at x .times),
+              )
 
-          kept-tables : listsExact at ≡ true → tablesIn (gatheredOf head lists) ms os ss es cs ts rs ≡ clipped (tablesOf (values digits ls))
-          kept-tables x = kept-read x ∙ ap clipped (sym (tables-are digits ls at placed head-good))
+          kept-tables : listsExact at ≡ true → keptIn (gatheredOf head lists) ms os ss es cs ts rs ≡ keptOf (tablesOf (values digits ls))
+          kept-tables x = kept-read x ∙ ap keptOf (sym (tables-are digits ls at placed head-good))
 
           pub settled-is : (r : GatherAnswer) → r ≡ settled head lists → goal r
           unfolding settled
@@ -142,21 +150,3 @@ module _ (digits : List ℕ) (ls : List (List ℕ)) (ms os ss es cs : List ℕ) 
 
               lx : listsExact at ≡ lists .exact
               lx = sym (k .exact)
-
--- how far the arrays are filled
-pub settled-within : (h : Heading) (l : Listing) (r : GatherAnswer) → r ≡ settled h l → Filled l → AllWithin r
-unfolding settled
-settled-within h l r e f =
-    rw e
-    (by-test (l .good)
-    (λ lg.
-    by-test (h .exact)
-    (λ he. by-test (l .exact) (λ le. rw (lg, he, le) whole) (λ le. rw (lg, he, le) (refused-within (numbered 20))))
-    (λ he. rw (lg, he) (refused-within (numbered 20))))
-    (λ lg. rw lg (refused-within (numbered 19))))
-  where
-    whole : AllWithin (Given (gatheredOf h l))
-    whole = record { given = λ g e. rw (← (same e)) (record { moduli = f .moduli; offsets = f .offsets; starts = f .starts; ends = f .ends; counts = f .counts; times = f .times; rates = f .rates }) }
-      where
-        same : {a b : Gathered} → _≡_ {A = GatherAnswer} (Given a) (Given b) → a ≡ b
-        same q = cc

@@ -1,6 +1,5 @@
 -- What gathering a kernel's tables gives: 18, 19 and 20, or the tables as far as they are kept.
-use Prim.Native.Nat.{ℕ, _≤_}
-use mathlib.Core.Path.{_≡_}
+use Prim.Native.Nat.{ℕ, min}
 use mathlib.Core.Bool.{cond}
 use mathlib.Core.List.{List, [], _∷_}
 use lib.IntN.{ℤ}
@@ -8,7 +7,7 @@ use lib.ListN.{take}
 use Rattle.rules.specs.Answer.{Answer, answer, refused, refuse, unless, numbered}
 use Rattle.kernel_rules.specs.Lines.{firstLine, same}
 use Rattle.kernel_rules.specs.Tables.{Tables, values, assignmentsOk, exactOk, tablesOf}
-use Rattle.kernel_tables.specs.Given.{tablesWith, clipped, fieldRoom, partitionRoom, segmentRoom}
+use Rattle.kernel_tables.specs.Given.{tablesWith, Kept, keptWith, keptOf}
 use Rattle.kernel_gather.specs.declared.Gathered.{Gathered}
 use Rattle.kernel_gather.specs.declared.GatherAnswer.{GatherAnswer}
 use Rattle.kernel_gather.specs.declared.GatherAnswer.the-variants.{Given, Refused}
@@ -26,8 +25,8 @@ unfoldable pub linesTables : List ℕ → List (List ℕ) → Answer Tables
 linesTables digits [] = refuse 18
 linesTables digits (l ∷ ls) = unless 18 (same l firstLine) (assignedTables digits ls)
 
-unfoldable pub kept : Answer Tables → Answer Tables
-kept (answer t) = answer (clipped t)
+unfoldable pub kept : Answer Tables → Answer Kept
+kept (answer t) = answer (keptOf t)
 kept (refused k) = refused k
 
 -- the tables at the fronts of the arrays
@@ -36,8 +35,13 @@ tablesIn g ms os ss es cs ts rs =
     tablesWith (g .n) (g .delimiter) (g .system) (take (g .moduli) ms) (take (g .offsets) os) (take (g .starts) ss) (take (g .ends) es)
     (take (g .counts) cs) (take (g .times) ts) (take (g .rates) rs)
 
-unfoldable pub gathered : GatherAnswer → List ℕ → List ℕ → List ℕ → List ℕ → List ℕ → List ℤ → List ℕ → Answer Tables
-gathered (Given g) ms os ss es cs ts rs = answer (tablesIn g ms os ss es cs ts rs)
+-- and the shortest lengths, of all numbers
+abbrev pub keptIn : Gathered → List ℕ → List ℕ → List ℕ → List ℕ → List ℕ → List ℤ → List ℕ → Kept
+keptIn g ms os ss es cs ts rs =
+    keptWith (tablesIn g ms os ss es cs ts rs) (min (g .starts) (g .ends)) (min (g .counts) (min (g .times) (g .rates)))
+
+unfoldable pub gathered : GatherAnswer → List ℕ → List ℕ → List ℕ → List ℕ → List ℕ → List ℤ → List ℕ → Answer Kept
+gathered (Given g) ms os ss es cs ts rs = answer (keptIn g ms os ss es cs ts rs)
 gathered (Refused k) ms os ss es cs ts rs = refused k
 
 -- from a good heading and the lists: 19 of the lists, then 20
@@ -59,16 +63,3 @@ gatheredOf h l =
 unfoldable pub settled : Heading → Listing → GatherAnswer
 settled h l =
     cond (l .good) (cond (h .exact) (cond (l .exact) (Given (gatheredOf h l)) (Refused (numbered 20))) (Refused (numbered 20))) (Refused (numbered 19))
-
--- how far each array is filled
-pub record WithinRoom (g : Gathered) : Type 0 where
-  pub moduli : g .moduli ≤ fieldRoom
-  pub offsets : g .offsets ≤ fieldRoom
-  pub starts : g .starts ≤ partitionRoom
-  pub ends : g .ends ≤ partitionRoom
-  pub counts : g .counts ≤ segmentRoom
-  pub times : g .times ≤ segmentRoom
-  pub rates : g .rates ≤ segmentRoom
-
-pub record AllWithin (r : GatherAnswer) : Type 0 where
-  pub given : (g : Gathered) → r ≡ Given g → WithinRoom g

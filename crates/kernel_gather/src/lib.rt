@@ -6,7 +6,7 @@ ghost use lib.ListN.{length, drop};
 ghost use Rattle.kernel_rules.specs.Lines.{kernelLines};
 ghost use Rattle.kernel_rules.specs.Names.{clockDigits};
 ghost use Rattle.kernel_listing.specs.Listed.{Room};
-ghost use Rattle.kernel_gather.specs.Gathered.{linesTables, assignedTables, kept, gathered, settled, AllWithin};
+ghost use Rattle.kernel_gather.specs.Gathered.{linesTables, assignedTables, kept, gathered, settled};
 use kernel_find::find;
 use kernel_heading::Heading;
 use kernel_heading::read_heading;
@@ -17,7 +17,7 @@ use kernel_listing::read_lists;
 use kernel_names::clock_digits;
 use rules::Refusal;
 
-// What a text gives beside its lists, and how many numbers of each list are kept.
+// What a text gives beside its lists, and how many numbers each list has; the arrays keep as many as they have room for.
 pub struct Gathered {
     pub n: u64,
     pub delimiter: u64,
@@ -49,8 +49,6 @@ pub fn gather(
 ) -> GatherAnswer
     requires { ⌜ Room (now moduli) (now offsets) (now starts) (now ends) (now counts) (now times) (now rates) ⌝ }
     ensures { λ r. ⌜ gathered r (now (moduli .exit)) (now (offsets .exit)) (now (starts .exit)) (now (ends .exit)) (now (counts .exit)) (now (times .exit)) (now (rates .exit)) ≡ kept (linesTables (clockDigits clock) (kernelLines (now (text .entry)))) ⌝ }
-    ensures { λ r. ⌜ Room (now (moduli .exit)) (now (offsets .exit)) (now (starts .exit)) (now (ends .exit)) (now (counts .exit)) (now (times .exit)) (now (rates .exit)) ⌝ }
-    ensures { λ r. ⌜ AllWithin r ⌝ }
 {
     if text.len() == 0 {
         return GatherAnswer::Refused(refusals::FIRST_LINE);
@@ -92,8 +90,6 @@ fn gather_from(
     requires { ⌜ (0 < from) × (from ≤ length (now text)) ⌝ }
     requires { ⌜ Room (now moduli) (now offsets) (now starts) (now ends) (now counts) (now times) (now rates) ⌝ }
     ensures { λ r. ⌜ gathered r (now (moduli .exit)) (now (offsets .exit)) (now (starts .exit)) (now (ends .exit)) (now (counts .exit)) (now (times .exit)) (now (rates .exit)) ≡ kept (assignedTables (now (digits .entry)) (kernelLines (drop from (now (text .entry))))) ⌝ }
-    ensures { λ r. ⌜ Room (now (moduli .exit)) (now (offsets .exit)) (now (starts .exit)) (now (ends .exit)) (now (counts .exit)) (now (times .exit)) (now (rates .exit)) ⌝ }
-    ensures { λ r. ⌜ AllWithin r ⌝ }
 {
     let found = find(text, from, digits);
     if !found.good {

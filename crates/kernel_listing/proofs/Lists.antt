@@ -2,14 +2,16 @@
 use Prim.Native.Nat.{ℕ, suc, _+_, _-_, _/_, _≤_, _<_, min}
 use mathlib.Core.Path.{_≡_, refl, sym, ap, _∙_}
 use mathlib.Core.Bool.{Bool, true, false, not, _&&_}
-use mathlib.Core.List.{List, [], _∷_, map}
+use mathlib.Core.List.{List, [], _∷_, map, append-nil}
 use lib.IntN.{ℤ}
-use lib.ListN.{length, getD, take, drop, length-take, length-drop, length-append}
+use lib.Dec.{leb}
+use lib.ListN.{length, getD, take, drop, length-take, length-drop, length-append, drop-of-length-le}
 use lib.Seq.{take-at, take-all}
-use borrow.Author.Tests.{eq-eqb, ne-eqb}
+use borrow.Author.Tests.{eq-eqb, ne-eqb, leb-true, leb-false}
 use native.Mathlib.Nat.{add-zero}
 use native.Mathlib.Omega.{arith}
 use Rattle.base.specs.Scans.{allOf}
+use Rattle.base.proofs.Tests.{by-test}
 use Rattle.kernel_rules.specs.Assignments.{isPlus}
 use Rattle.kernel_rules.specs.Numbers.{isNumber}
 use Rattle.kernel_rules.specs.Names.{Assignment}
@@ -29,12 +31,18 @@ length-map f [] = refl
 length-map f (x ∷ xs) = ap suc (length-map f xs)
 
 -- what is kept of a stored list
-kept-front : {A : Type 0} (xs out : List A) (k : ℕ) → k ≡ min (length xs) (length out) → take k (stored xs out) ≡ take (length out) xs
+kept-front : {A : Type 0} (xs out : List A) (k : ℕ) → k ≡ length xs → take k (stored xs out) ≡ take (length out) xs
 unfolding stored
-kept-front xs out k e = take-at (take (length out) xs) (drop (length xs) out) k (length-take (length out) xs ∙ sym e-min)
+kept-front xs out k e =
+    by-test (leb (length xs) (length out))
+    (λ h. take-at (take (length out) xs) (drop (length xs) out) k (length-take (length out) xs ∙ fits (leb-true _ _ h)))
+    (λ h. rw (drop-of-length-le out (over (leb-false _ _ h)), append-nil (take (length out) xs)) (take-all k (take (length out) xs) (rw (length-take (length out) xs) (omega (arith, e)))))
   where
-    e-min : k ≡ min (length out) (length xs)
-    e-min = omega (arith, e)
+    fits : length xs ≤ length out → min (length out) (length xs) ≡ k
+    fits h = omega (arith, e)
+
+    over : length out < length xs → length out ≤ length xs
+    over h = omega arith
 
 pub stored-length : {A : Type 0} (xs out : List A) → length (stored xs out) ≡ length out
 unfolding stored
@@ -60,38 +68,50 @@ columns (v ∷ vs) =
     let r = columns vs in
     record { first = omega (arith, r .third); second = omega (arith, r .first); third = omega (arith, r .second) }
 
+-- the three lists of the coefficients vs
+record Lengths (vs : List (List ℕ)) : Type 0 where
+  counts : length (numbers (countsIn vs)) ≡ (length vs + 2) / 3
+  times : length (timesOf (timesIn vs)) ≡ (length vs + 1) / 3
+  rates : length (ratesOf (ratesIn vs)) ≡ length vs / 3
+
+lengths : (vs : List (List ℕ)) → Lengths vs
+lengths vs =
+    let r = columns vs in
+    record {
+      counts = length-map (λ v. unsigned (whole v)) (countsIn vs) ∙ r .first;
+      times = length-map (λ v. signedOr0 (inNanoseconds v)) (timesIn vs) ∙ r .second;
+      rates = length-map (λ v. unsigned (inPicoseconds v)) (ratesIn vs) ∙ r .third;
+    }
+
 -- where a list is absent
-module _ (text : List ℕ) (at room : ℕ) (absent : at ≡ 0) where
+module _ (text : List ℕ) (at : ℕ) (absent : at ≡ 0) where
   none : slotAt text at ≡ []
   unfolding slotAt
   none = rw (eq-eqb at 0 absent)
 
-  no-room : _≡_ {A = ℕ} 0 (min 0 room)
-  no-room = omega arith
-
-  pub absent-list : record { good = false; exact = true; kept = 0 } ≡ listedOf (slotAt text at) room
+  pub absent-list : record { good = false; exact = true; count = 0 } ≡ listedOf (slotAt text at)
   unfolding listedOf listOk valuesGiven every
-  absent-list = rw (none, ← no-room)
+  absent-list = rw none
 
-  pub absent-rows : record { good = false; exact = true; counts = 0; times = 0; rates = 0 } ≡ rowsOf (slotAt text at) room
+  pub absent-rows : record { good = false; exact = true; counts = 0; times = 0; rates = 0 } ≡ rowsOf (slotAt text at)
   unfolding rowsOf listOk valuesGiven every rowsExact column
-  absent-rows = rw (none, ← no-room)
+  absent-rows = rw none
 
-  pub absent-numbers : (out : List ℕ) → take 0 out ≡ take room (numbers (valuesGiven (slotAt text at)))
+  pub absent-numbers : (room : ℕ) (out : List ℕ) → take 0 out ≡ take room (numbers (valuesGiven (slotAt text at)))
   unfolding valuesGiven
-  absent-numbers out = rw none (sym (take-all room [] (omega arith)))
+  absent-numbers room out = rw none (sym (take-all room [] (omega arith)))
 
-  pub absent-counts : (out : List ℕ) → take 0 out ≡ take room (numbers (countsIn (valuesGiven (slotAt text at))))
+  pub absent-counts : (room : ℕ) (out : List ℕ) → take 0 out ≡ take room (numbers (countsIn (valuesGiven (slotAt text at))))
   unfolding valuesGiven column
-  absent-counts out = rw none (sym (take-all room [] (omega arith)))
+  absent-counts room out = rw none (sym (take-all room [] (omega arith)))
 
-  pub absent-times : (out : List ℤ) → take 0 out ≡ take room (timesOf (timesIn (valuesGiven (slotAt text at))))
+  pub absent-times : (room : ℕ) (out : List ℤ) → take 0 out ≡ take room (timesOf (timesIn (valuesGiven (slotAt text at))))
   unfolding valuesGiven column
-  absent-times out = rw none (sym (take-all room [] (omega arith)))
+  absent-times room out = rw none (sym (take-all room [] (omega arith)))
 
-  pub absent-rates : (out : List ℕ) → take 0 out ≡ take room (ratesOf (ratesIn (valuesGiven (slotAt text at))))
+  pub absent-rates : (room : ℕ) (out : List ℕ) → take 0 out ≡ take room (ratesOf (ratesIn (valuesGiven (slotAt text at))))
   unfolding valuesGiven column
-  absent-rates out = rw none (sym (take-all room [] (omega arith)))
+  absent-rates room out = rw none (sym (take-all room [] (omega arith)))
 
 -- where it is given
 module _ (text : List ℕ) (at : ℕ) (there : at ≡ 0 → ⊥) where
@@ -107,57 +127,44 @@ module _ (text : List ℕ) (at : ℕ) (there : at ≡ 0 → ⊥) where
   unfolding listOk assignmentAt
   good-list = rw here
 
-  module _ (f : Filled) (out : List ℕ) (read : f ≡ listRead (lineHere text at) (linesBehind text at)) where
-    module _ (after : List ℕ) (k : ℕ) (e : after ≡ stored (numbers (valuesHere text at)) out) (m : k ≡ min (f .count) (length after)) where
-      m-out : k ≡ min (f .count) (length out)
-      m-out = m ∙ rw (e, stored-length (numbers (valuesHere text at)) out)
+  module _ (f : Filled) (read : f ≡ listRead (lineHere text at) (linesBehind text at)) where
+    pub given-list : (good : Bool) → good ≡ (f .plain && f .numbers) → record { good = good; exact = f .exact; count = f .count } ≡ listedOf (slotAt text at)
+    unfolding listedOf listRead
+    given-list good g = rw (g, read, good-list, same-values)
 
-      pub given-list : (good : Bool) → good ≡ (f .plain && f .numbers) → record { good = good; exact = f .exact; kept = k } ≡ listedOf (slotAt text at) (length out)
-      unfolding listedOf listRead
-      given-list good g = rw (g, m-out, read, good-list, same-values)
+    pub given-kept : (out after : List ℕ) → after ≡ stored (numbers (valuesHere text at)) out → take (f .count) after ≡ take (length out) (numbers (valuesGiven (slotAt text at)))
+    unfolding listRead
+    given-kept out after e =
+        rw (e, same-values) (kept-front (numbers (valuesHere text at)) out (f .count) (rw (read, length-map (λ v. unsigned (whole v)) (valuesHere text at))))
 
-      pub given-kept : take k after ≡ take (length out) (numbers (valuesGiven (slotAt text at)))
-      unfolding listRead
-      given-kept = rw (e, same-values) (kept-front (numbers (valuesHere text at)) out k (m-out ∙ rw (read, length-map (λ v. unsigned (whole v)) (valuesHere text at))))
-
-      pub given-within : k ≤ length out
-      given-within = omega (arith, m-out)
-
-  module _ (f : Filled) (out after : List ℕ) (read : f ≡ rowsRead (lineHere text at) (linesBehind text at)) (e : after ≡ stored (numbers (countsIn (valuesHere text at))) out) where
+  module _ (f : Filled) (read : f ≡ rowsRead (lineHere text at) (linesBehind text at)) where
     many : f .count ≡ length (valuesHere text at)
     unfolding rowsRead
     many = rw read
 
-    -- the room is that of the counts, which a store keeps
-    room-is : length after ≡ length out
-    room-is = rw e (stored-length (numbers (countsIn (valuesHere text at))) out)
-
-    pub given-rows : (good : Bool) (i j k : ℕ) → good ≡ (f .plain && f .numbers) → i ≡ min ((f .count + 2) / 3) (length after) → j ≡ min ((f .count + 1) / 3) (length after) → k ≡ min ((f .count + 0) / 3) (length after)
-        → record { good = good; exact = f .exact; counts = i; times = j; rates = k } ≡ rowsOf (slotAt text at) (length out)
+    pub given-rows : (good : Bool) (i j k : ℕ) → good ≡ (f .plain && f .numbers) → i ≡ (f .count + 2) / 3 → j ≡ (f .count + 1) / 3 → k ≡ (f .count + 0) / 3
+        → record { good = good; exact = f .exact; counts = i; times = j; rates = k } ≡ rowsOf (slotAt text at)
     unfolding rowsOf rowsRead rowsExact
-    given-rows good i j k g ei ej ek = rw (g, ei, ej, ek, room-is, add-zero (f .count), read, good-list, same-values)
+    given-rows good i j k g ei ej ek = rw (g, ei, ej, ek, add-zero (f .count), read, good-list, same-values)
 
-    pub given-counts : (k : ℕ) → k ≡ min ((f .count + 2) / 3) (length after) → take k after ≡ take (length out) (numbers (countsIn (valuesGiven (slotAt text at))))
-    given-counts k m =
+    pub given-counts : (out after : List ℕ) (k : ℕ) → after ≡ stored (numbers (countsIn (valuesHere text at))) out → k ≡ (f .count + 2) / 3 → take k after ≡ take (length out) (numbers (countsIn (valuesGiven (slotAt text at))))
+    given-counts out after k e m =
         rw (e, same-values)
-        (kept-front (numbers (countsIn (valuesHere text at))) out k
-        (m ∙ rw (room-is, many, length-map (λ v. unsigned (whole v)) (countsIn (valuesHere text at)), columns (valuesHere text at) .first)))
+        (kept-front (numbers (countsIn (valuesHere text at))) out k (m ∙ rw many (sym (lengths (valuesHere text at) .counts))))
 
-    pub given-times : (ts later : List ℤ) (k : ℕ) → length ts ≡ length out → later ≡ stored (timesOf (timesIn (valuesHere text at))) ts → k ≡ min ((f .count + 1) / 3) (length after) → take k later ≡ take (length out) (timesOf (timesIn (valuesGiven (slotAt text at))))
-    given-times ts later k l d m =
+    pub given-times : (n : ℕ) (ts later : List ℤ) (k : ℕ) → length ts ≡ n → later ≡ stored (timesOf (timesIn (valuesHere text at))) ts → k ≡ (f .count + 1) / 3 → take k later ≡ take n (timesOf (timesIn (valuesGiven (slotAt text at))))
+    given-times n ts later k l d m =
         rw (d, same-values, ← l)
-        (kept-front (timesOf (timesIn (valuesHere text at))) ts k
-        (m ∙ rw (room-is, ← l, many, length-map (λ v. signedOr0 (inNanoseconds v)) (timesIn (valuesHere text at)), columns (valuesHere text at) .second)))
+        (kept-front (timesOf (timesIn (valuesHere text at))) ts k (m ∙ rw many (sym (lengths (valuesHere text at) .times))))
 
-    pub given-rates : (rs later : List ℕ) (k : ℕ) → length rs ≡ length out → later ≡ stored (ratesOf (ratesIn (valuesHere text at))) rs → k ≡ min ((f .count + 0) / 3) (length after) → take k later ≡ take (length out) (ratesOf (ratesIn (valuesGiven (slotAt text at))))
-    given-rates rs later k l d m =
+    pub given-rates : (n : ℕ) (rs later : List ℕ) (k : ℕ) → length rs ≡ n → later ≡ stored (ratesOf (ratesIn (valuesHere text at))) rs → k ≡ (f .count + 0) / 3 → take k later ≡ take n (ratesOf (ratesIn (valuesGiven (slotAt text at))))
+    given-rates n rs later k l d m =
         rw (d, same-values, ← l)
-        (kept-front (ratesOf (ratesIn (valuesHere text at))) rs k
-        (m ∙ rw (room-is, ← l, many, add-zero (length (valuesHere text at)), length-map (λ v. unsigned (inPicoseconds v)) (ratesIn (valuesHere text at)), columns (valuesHere text at) .third)))
+        (kept-front (ratesOf (ratesIn (valuesHere text at))) rs k (m ∙ rw (many, add-zero (length (valuesHere text at))) (sym (lengths (valuesHere text at) .rates))))
 
 -- All five lists.
-module _ (g : ℕ → List Assignment) (m o s e : Listed) (c : Rows) (fields parts rows : ℕ)
-    (em : m ≡ listedOf (g 4) fields) (eo : o ≡ listedOf (g 5) fields) (es : s ≡ listedOf (g 8) parts) (ee : e ≡ listedOf (g 9) parts) (ec : c ≡ rowsOf (g 7) rows) where
+module _ (g : ℕ → List Assignment) (m o s e : Listed) (c : Rows)
+    (em : m ≡ listedOf (g 4)) (eo : o ≡ listedOf (g 5)) (es : s ≡ listedOf (g 8)) (ee : e ≡ listedOf (g 9)) (ec : c ≡ rowsOf (g 7)) where
   pub lists-good : (x : Bool) → x ≡ allOf (m .good ∷ o .good ∷ c .good ∷ s .good ∷ e .good ∷ []) → x ≡ listsGood g
   unfolding listsGood listedOf rowsOf
   lists-good x h = h ∙ rw (em, eo, es, ee, ec)
@@ -166,18 +173,13 @@ module _ (g : ℕ → List Assignment) (m o s e : Listed) (c : Rows) (fields par
   unfolding listsExact listedOf rowsOf
   lists-exact x h = h ∙ rw (em, eo, es, ee, ec)
 
-module _ (c : Rows) (g : List Assignment) (rows : ℕ) (ec : c ≡ rowsOf g rows) where
-  pub counts-within : c .counts ≤ rows
-  unfolding rowsOf
-  counts-within = rw ec (omega arith)
+pub list-length : (l : Listed) (g : List Assignment) → l ≡ listedOf g → l .count ≡ length (numbers (valuesGiven g))
+unfolding listedOf
+list-length l g e = rw (e, length-map (λ v. unsigned (whole v)) (valuesGiven g))
 
-  pub times-within : c .times ≤ rows
-  unfolding rowsOf
-  times-within = rw ec (omega arith)
-
-  pub rates-within : c .rates ≤ rows
-  unfolding rowsOf
-  rates-within = rw ec (omega arith)
+pub rows-lengths : (c : Rows) (g : List Assignment) → c ≡ rowsOf g → (c .counts ≡ length (numbers (countsIn (valuesGiven g)))) × (c .times ≡ length (timesOf (timesIn (valuesGiven g)))) × (c .rates ≡ length (ratesOf (ratesIn (valuesGiven g))))
+unfolding rowsOf
+rows-lengths c g e = let l = lengths (valuesGiven g) in rw e (sym (l .counts), sym (l .times), sym (l .rates))
 
 -- the place of a list
 module _ (n : ℕ) (slots : List ℕ) (p : Placed n slots) where
@@ -197,14 +199,5 @@ module _ (n : ℕ) (slots : List ℕ) (p : Placed n slots) where
   place-9 = p .place 9 (omega arith)
 
 -- what is said by an array's length, by its room
-pub roomed : (r : Listed) (g : List Assignment) (n room : ℕ) → n ≡ room → r ≡ listedOf g n → r ≡ listedOf g room
-roomed r g n room l e = rw (← l) e
-
-pub roomed-rows : (r : Rows) (g : List Assignment) (n room : ℕ) → n ≡ room → r ≡ rowsOf g n → r ≡ rowsOf g room
-roomed-rows r g n room l e = rw (← l) e
-
 pub front-roomed : {A : Type 0} (xs ys : List A) (n room : ℕ) → n ≡ room → xs ≡ take n ys → xs ≡ take room ys
 front-roomed xs ys n room l e = rw (← l) e
-
-pub within-roomed : (k n room : ℕ) → n ≡ room → k ≤ n → k ≤ room
-within-roomed k n room l h = rw (← l) h

@@ -1,5 +1,5 @@
--- What reading the five lists gives, with arrays of this much room.
-use Prim.Native.Nat.{ℕ, _+_, _/_, _≤_, min}
+-- What reading the five lists gives, and what the arrays keep of them.
+use Prim.Native.Nat.{ℕ, _+_, _/_}
 use mathlib.Core.Path.{_≡_}
 use mathlib.Core.List.{List}
 use lib.IntN.{ℤ}
@@ -13,18 +13,18 @@ use Rattle.kernel_listing.specs.declared.Listed.{Listed}
 use Rattle.kernel_listing.specs.declared.Rows.{Rows}
 use Rattle.kernel_listing.specs.Lists.{listOk, rowsExact, listsGood, listsExact}
 
-unfoldable pub listedOf : List Assignment → ℕ → Listed
-listedOf g room = record { good = listOk g; exact = areWhole (valuesGiven g); kept = min (length (valuesGiven g)) room }
+unfoldable pub listedOf : List Assignment → Listed
+listedOf g = record { good = listOk g; exact = areWhole (valuesGiven g); count = length (valuesGiven g) }
 
 -- of the coefficients the first column has the values 0, 3, .., the second 1, 4, .., the third 2, 5, ..
-unfoldable pub rowsOf : List Assignment → ℕ → Rows
-rowsOf g room =
+unfoldable pub rowsOf : List Assignment → Rows
+rowsOf g =
     record {
       good = listOk g;
       exact = rowsExact (valuesGiven g);
-      counts = min ((length (valuesGiven g) + 2) / 3) room;
-      times = min ((length (valuesGiven g) + 1) / 3) room;
-      rates = min (length (valuesGiven g) / 3) room;
+      counts = (length (valuesGiven g) + 2) / 3;
+      times = (length (valuesGiven g) + 1) / 3;
+      rates = length (valuesGiven g) / 3;
     }
 
 -- the arrays have room for one number more than the lists may have
@@ -37,21 +37,18 @@ pub record Room (ms os ss es cs : List ℕ) (ts : List ℤ) (rs : List ℕ) : Ty
   pub times : length ts ≡ segmentRoom
   pub rates : length rs ≡ segmentRoom
 
--- how far each array is filled
-pub record Filled (r : Listing) : Type 0 where
-  pub moduli : r .moduli ≤ fieldRoom
-  pub offsets : r .offsets ≤ fieldRoom
-  pub starts : r .starts ≤ partitionRoom
-  pub ends : r .ends ≤ partitionRoom
-  pub counts : r .counts ≤ segmentRoom
-  pub times : r .times ≤ segmentRoom
-  pub rates : r .rates ≤ segmentRoom
+-- how long the lists of partitions and of segments are, kept or not
+pub record Counted (g : ℕ → List Assignment) (r : Listing) : Type 0 where
+  pub starts : r .starts ≡ length (numbers (valuesGiven (g 8)))
+  pub ends : r .ends ≡ length (numbers (valuesGiven (g 9)))
+  pub counts : r .counts ≡ length (numbers (countsIn (valuesGiven (g 7))))
+  pub times : r .times ≡ length (timesOf (timesIn (valuesGiven (g 7))))
+  pub rates : r .rates ≡ length (ratesOf (ratesIn (valuesGiven (g 7))))
 
 -- what is told of the lists, and what the arrays keep of them
 pub record ListsKept (g : ℕ → List Assignment) (r : Listing) (ms os ss es cs : List ℕ) (ts : List ℤ) (rs : List ℕ) : Type 0 where
   pub good : r .good ≡ listsGood g
   pub exact : r .exact ≡ listsExact g
-  pub room : Room ms os ss es cs ts rs
   pub moduli : take (r .moduli) ms ≡ take fieldRoom (numbers (valuesGiven (g 4)))
   pub offsets : take (r .offsets) os ≡ take fieldRoom (numbers (valuesGiven (g 5)))
   pub starts : take (r .starts) ss ≡ take partitionRoom (numbers (valuesGiven (g 8)))
@@ -59,4 +56,4 @@ pub record ListsKept (g : ℕ → List Assignment) (r : Listing) (ms os ss es cs
   pub counts : take (r .counts) cs ≡ take segmentRoom (numbers (countsIn (valuesGiven (g 7))))
   pub times : take (r .times) ts ≡ take segmentRoom (timesOf (timesIn (valuesGiven (g 7))))
   pub rates : take (r .rates) rs ≡ take segmentRoom (ratesOf (ratesIn (valuesGiven (g 7))))
-  pub filled : Filled r
+  pub counted : Counted g r

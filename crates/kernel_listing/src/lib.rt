@@ -1,7 +1,8 @@
-// The five lists: whether each is given as it may be, whether its numbers are exact, and how many of them are kept in the arrays.
+// The five lists: whether each is given as it may be, whether its numbers are exact, and how many they are. The arrays keep as many as they
+// have room for.
 ghost use mathlib.Core.Path.{_≡_};
 ghost use mathlib.Core.List.{[], _∷_};
-ghost use Prim.Native.Nat.{_+_, _<_, _≤_, _/_, min};
+ghost use Prim.Native.Nat.{_+_, _<_, _≤_, _/_};
 ghost use lib.ListN.{length, take, getD};
 ghost use Rattle.base.specs.Scans.{allOf};
 ghost use Rattle.kernel_rules.specs.Tables.{valuesGiven, numbers, countsIn, timesIn, ratesIn};
@@ -27,7 +28,7 @@ pub struct Listing {
 pub struct Listed {
     pub good: bool,
     pub exact: bool,
-    pub kept: usize,
+    pub count: usize,
 }
 
 pub struct Rows {
@@ -62,10 +63,10 @@ pub fn read_lists(
     Listing {
         good: all_five(m.good, o.good, c.good, s.good, e.good),
         exact: all_five(m.exact, o.exact, c.exact, s.exact, e.exact),
-        moduli: m.kept,
-        offsets: o.kept,
-        starts: s.kept,
-        ends: e.kept,
+        moduli: m.count,
+        offsets: o.count,
+        starts: s.count,
+        ends: e.count,
         counts: c.counts,
         times: c.times,
         rates: c.rates,
@@ -75,22 +76,22 @@ pub fn read_lists(
 // A list of whole numbers at the place `at`; 0 where the text does not give it.
 fn read_list(text: &[u8], at: usize, out: &mut [u64]) -> Listed
     requires { ⌜ at < length (now text) ⌝ }
-    ensures { λ r. ⌜ r ≡ listedOf (slotAt (now (text .entry)) at) (length (now (out .entry))) ⌝ }
-    ensures { λ r. ⌜ take (r .kept) (now (out .exit)) ≡ take (length (now (out .entry))) (numbers (valuesGiven (slotAt (now (text .entry)) at))) ⌝ }
-    ensures { λ r. ⌜ (r .kept ≤ length (now (out .entry))) × (length (now (out .exit)) ≡ length (now (out .entry))) ⌝ }
+    ensures { λ r. ⌜ r ≡ listedOf (slotAt (now (text .entry)) at) ⌝ }
+    ensures { λ r. ⌜ take (r .count) (now (out .exit)) ≡ take (length (now (out .entry))) (numbers (valuesGiven (slotAt (now (text .entry)) at))) ⌝ }
+    ensures { λ r. ⌜ length (now (out .exit)) ≡ length (now (out .entry)) ⌝ }
 {
     if at == 0 {
         return Listed {
             good: false,
             exact: true,
-            kept: 0,
+            count: 0,
         };
     }
     let f = fill_list(text, at, out);
     Listed {
         good: both(f.plain, f.numbers),
         exact: f.exact,
-        kept: smaller(f.count, out.len()),
+        count: f.count,
     }
 }
 
@@ -104,7 +105,7 @@ fn read_rows(
 ) -> Rows
     requires { ⌜ at < length (now text) ⌝ }
     requires { ⌜ (length (now times) ≡ length (now counts)) × (length (now rates) ≡ length (now counts)) ⌝ }
-    ensures { λ r. ⌜ r ≡ rowsOf (slotAt (now (text .entry)) at) (length (now (counts .entry))) ⌝ }
+    ensures { λ r. ⌜ r ≡ rowsOf (slotAt (now (text .entry)) at) ⌝ }
     ensures { λ r. ⌜ take (r .counts) (now (counts .exit)) ≡ take (length (now (counts .entry))) (numbers (countsIn (valuesGiven (slotAt (now (text .entry)) at)))) ⌝ }
     ensures { λ r. ⌜ take (r .times) (now (times .exit)) ≡ take (length (now (counts .entry))) (timesOf (timesIn (valuesGiven (slotAt (now (text .entry)) at)))) ⌝ }
     ensures { λ r. ⌜ take (r .rates) (now (rates .exit)) ≡ take (length (now (counts .entry))) (ratesOf (ratesIn (valuesGiven (slotAt (now (text .entry)) at)))) ⌝ }
@@ -120,28 +121,21 @@ fn read_rows(
         };
     }
     let f = fill_rows(text, at, counts, times, rates);
-    let room = counts.len();
     Rows {
         good: both(f.plain, f.numbers),
         exact: f.exact,
-        counts: in_column(f.count, 2, room),
-        times: in_column(f.count, 1, room),
-        rates: in_column(f.count, 0, room),
+        counts: in_column(f.count, 2),
+        times: in_column(f.count, 1),
+        rates: in_column(f.count, 0),
     }
 }
 
-// How many of `count` values stand in a column, of which `more` come before a row is whole, as far as there is room.
-fn in_column(count: usize, more: usize, room: usize) -> usize
+// How many of `count` values stand in a column, of which `more` come before a row is whole.
+fn in_column(count: usize, more: usize) -> usize
     requires { ⌜ more ≤ 2 ⌝ }
-    ensures { λ r. ⌜ r ≡ min ((count + more) / 3) room ⌝ }
+    ensures { λ r. ⌜ r ≡ (count + more) / 3 ⌝ }
 {
-    smaller(count / 3 + (count % 3 + more) / 3, room)
-}
-
-fn smaller(a: usize, b: usize) -> usize
-    ensures { λ r. ⌜ r ≡ min a b ⌝ }
-{
-    if a < b { a } else { b }
+    count / 3 + (count % 3 + more) / 3
 }
 
 fn all_five(a: bool, b: bool, c: bool, d: bool, e: bool) -> bool

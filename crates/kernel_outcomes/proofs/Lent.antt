@@ -1,6 +1,6 @@
 -- What an answer tells: the tables are accepted, the lent lists hold them, and every call takes what a caller makes of them.
 use Prim.Native.Nat.{ℕ, _≤_}
-use mathlib.Core.Path.{_≡_, refl, sym, subst, _∙_}
+use mathlib.Core.Path.{_≡_, refl, sym, ap, subst, _∙_}
 use mathlib.Core.Bool.{true}
 use mathlib.Core.List.{List, [], _∷_}
 use lib.IntN.{ℤ}
@@ -9,15 +9,17 @@ use lib.ListN.{length, drop, length-append, length-drop}
 use lib.Seq.{take-at, drop-at, take-all}
 use borrow.Author.Tests.{leb-true, eqb-true}
 use native.Mathlib.Omega.{arith}
+use Rattle.base.specs.Scans.{isNone}
+use Rattle.base.proofs.Scans.{nothing}
 use Rattle.base.proofs.Tests.{and-first, and-second, all-of-head, all-of-tail}
 use Rattle.rules.specs.declared.Refusal.{Refusal}
 use Rattle.rules.specs.declared.Layout.{Layout}
-use Rattle.rules.specs.Answer.{Answer, answer, refused, unless, andThen}
+use Rattle.rules.specs.Answer.{Answer, answer, refused, unless, unlessAt, andThen}
 use Rattle.rules.specs.Layout.{moduliOf, offsetsOf, layoutOk, productOf, msfOf, unitOf}
-use Rattle.rules.specs.Partitions.{partitions}
-use Rattle.rules.specs.Segments.{segments}
+use Rattle.rules.specs.Partitions.{partitions, totalOf, partitionsFault}
+use Rattle.rules.specs.Segments.{segments, segmentsFault}
 use Rattle.rules.specs.Accepted.{acceptedStamps, accepted}
-use Rattle.rules.proofs.Answers.{payload, not-answer, unless-test, unless-rest}
+use Rattle.rules.proofs.Answers.{payload, not-answer, unless-test, unless-rest, unless-at-none, unless-at-rest}
 use Rattle.rules.proofs.Accepted.{layout-slots, partitions-facts, segments-facts}
 use Rattle.kernel_rules.specs.Lines.{kernelLines}
 use Rattle.kernel_rules.specs.Names.{clockDigits}
@@ -62,18 +64,18 @@ tables-accepted s t h =
     let h1 = unless-rest 1 _ _ t h in
     let l = unless-test 1 _ _ t h1 in
     let h2 = unless-rest 1 _ _ t h1 in
-    let p = unless-test 2 _ _ t h2 in
-    let h3 = unless-rest 2 _ _ t h2 in
-    let g = unless-test 3 _ _ t h3 in
-    let e : s ≡ t = payload (unless-rest 3 _ _ t h3) in (
+    let p = unless-at-none 2 _ _ t h2 in
+    let h3 = unless-at-rest 2 _ _ t h2 in
+    let g = unless-at-none 3 _ _ t h3 in
+    let e : s ≡ t = payload (unless-at-rest 3 _ _ t h3) in (
       e,
       subst Accepted e
           (record {
             moduli-length = eqb-true _ _ (and-first _ _ a);
             offsets-length = eqb-true _ _ (and-second (eqb (length (s .lists .moduli)) (s .n)) _ a);
             layout = l;
-            partitions = p;
-            segments = g;
+            partitions = ap isNone p;
+            segments = ap isNone g;
           }),
     )
 
@@ -156,10 +158,16 @@ module _ (text : List ℕ) (clock : ℤ) (lent : Lists) where
 
       -- so that "1, 2, 3 (those the call uses)" let every call go on: those on stamps, and those on times
       pub stamps-taken : {A : Type 0} (a : Answer A) → acceptedStamps l (partitionsFrom t after) a ≡ a
-      unfolding unless
-      stamps-taken a = rw (layout-read, partitions-read, product-made, read-accepted .partitions)
+      unfolding unless unlessAt
+      stamps-taken a = rw (layout-read, partitions-read, product-made, nothing (partitionsFault (productOf (layoutIn t)) (partitionsIn (t .lists))) (read-accepted .partitions))
 
       pub read-taken : {A : Type 0} (a : Answer A) → accepted l (partitionsFrom t after) (segmentsFrom t after) a ≡ a
-      unfolding accepted unless
+      unfolding accepted unlessAt
       read-taken a =
-          rw (layout-read, partitions-read, segments-read, product-made, read-accepted .partitions, unit-made, read-accepted .segments)
+          rw (
+            stamps-taken,
+            partitions-read,
+            segments-read,
+            unit-made,
+            nothing (segmentsFault (unitOf (layoutIn t)) (totalOf (partitionsIn (t .lists))) (segmentsIn (t .lists))) (read-accepted .segments),
+          )

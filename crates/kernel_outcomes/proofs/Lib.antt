@@ -1,4 +1,5 @@
 pub mod Refusals
+pub mod Rows
 pub mod Lent
 pub mod Closing
 pub mod Passing

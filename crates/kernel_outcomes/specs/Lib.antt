@@ -2,5 +2,6 @@
 pub mod Samples
 pub mod Refused
 pub mod Refusals
+pub mod Rows
 pub mod Lent
 pub mod Passing

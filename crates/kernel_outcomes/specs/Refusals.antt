@@ -1,14 +1,14 @@
--- The exact set of refusals of reading a kernel, in their order. proofs/Refusals.antt shows that no other is given; here a text gives each.
+-- The exact set of refusals of reading a kernel, in their order, of which 2 and 3 have a place. proofs/Refusals.antt shows that no other is
+-- given; here a text gives each.
 use Prim.Native.Nat.{ℕ, _+_}
 use Prim.Native.String.{String}
-use mathlib.Core.Path.{_≡_, refl}
-use mathlib.Core.Bool.{true}
-use mathlib.Core.List.{List, [], _∷_, _++_, map}
-use lib.IntN.{pos}
+use mathlib.Core.Path.{refl}
+use mathlib.Core.List.{List, [], _∷_, _++_}
+use lib.IntN.{ℤ, pos}
 use lib.ListN.{take, drop}
-use Rattle.base.specs.Scans.{among}
-use Rattle.rules.specs.declared.Refusal.{Refusal}
-use Rattle.rules.specs.Answer.{Answer, refused, refuse}
+use Rattle.rules.specs.Answer.{Answer, numbered, placed}
+use Rattle.outcomes.specs.Refusals.{hasPlace, OnlyRefuses}
+use Rattle.outcomes.specs.Given.{Given}
 use Rattle.kernel_rules.specs.Tables.{Lists, Tables}
 use Rattle.kernel_rules.specs.Kernel.{readKernel}
 use Rattle.kernel_rules.specs.Examples.{joined, tablesA}
@@ -17,9 +17,12 @@ use Rattle.kernel_rules.specs.Edits.{shortA, editing}
 unfoldable pub kernelRefusals : List ℕ
 kernelRefusals = 18 ∷ 19 ∷ 20 ∷ 1 ∷ 2 ∷ 3 ∷ 16 ∷ []
 
--- every refusal of a call is one of ks
-abbrev pub OnlyRefuses : {A : Type 0} → List ℕ → Answer A → Type 0
-OnlyRefuses ks a = (k : Refusal) → a ≡ refused k → among (k .number) ks ≡ true
+-- every refusal is one of these
+abbrev pub OnlyThese : {A : Type 0} → Answer A → Type 0
+OnlyThese a = OnlyRefuses hasPlace kernelRefusals a
+
+abbrev pub KernelRefusals : Type 0
+KernelRefusals = (text : List ℕ) (clock : ℤ) (lent : Lists) → OnlyThese (readKernel text clock lent)
 
 -- table A's text with another line i
 unfoldable pub textWith : ℕ → String → List ℕ
@@ -32,6 +35,7 @@ unfoldable pub readA : List ℕ → Answer Tables
 readA s = readKernel s (pos 77) (tablesA .lists)
 
 pub refusals-given :
+    Given
     (readA (textWith 0 "KPL/CK")
     ∷ readA (textWith 3 "SCLK_DATA_TYPE_77=2")
     ∷ readA (textWith 5 "SCLK01_N_FIELDS_77=2.5")
@@ -40,6 +44,7 @@ pub refusals-given :
     ∷ readA (textWith 12 "600 1E-6 9E-9)")
     ∷ readKernel (joined shortA) (pos 77) noRoom
     ∷ [])
-    ≡ map refuse kernelRefusals
+    (numbered 18 ∷ numbered 19 ∷ numbered 20 ∷ numbered 1 ∷ placed 2 1 ∷ placed 3 1 ∷ numbered 16 ∷ [])
+    kernelRefusals
 unfolding editing joined kernelRefusals textWith noRoom readA
-refusals-given = refl
+refusals-given = (refl, refl)

@@ -1,12 +1,12 @@
 -- Each clause of each refusal by a case of its own, and the order of the refusals: table A as a short kernel with lines changed.
 use mathlib.Core.Path.{_≡_, refl}
 use mathlib.Core.List.{List, [], _∷_, _++_, map}
-use Rattle.rules.specs.Answer.{refuse}
-use Rattle.kernel_rules.specs.Edits.{Case, placed, instead, without, before, coefficients, each, unchanged, readCase, editing}
+use Rattle.rules.specs.Answer.{refuse, refuseAt}
+use Rattle.kernel_rules.specs.Edits.{Case, replaced, instead, without, before, coefficients, each, unchanged, readCase, editing}
 
 -- 19 "a name missing, given twice, with `+=`": each of the ten. A time system may be missing.
 unfoldable pub missing : List Case
-missing = each (refuse 19) (map without (2 ∷ 3 ∷ 5 ∷ 6 ∷ 7 ∷ 8 ∷ 9 ∷ 10 ∷ []) ++ (placed 11 2 [] ∷ []))
+missing = each (refuse 19) (map without (2 ∷ 3 ∷ 5 ∷ 6 ∷ 7 ∷ 8 ∷ 9 ∷ 10 ∷ []) ++ (replaced 11 2 [] ∷ []))
 
 unfoldable pub twice : List Case
 twice =
@@ -23,7 +23,7 @@ twice =
     ∷ "SCLK_PARTITION_END_77 = ( 500 900 )"
     ∷ "SCLK01_COEFFICIENTS_77 = ( 0 -1E-6 25E-9 600 1E-6 30E-9 )"
     ∷ [])
-    ++ (placed 14 0 ("\\begindata" ∷ "SCLK01_N_FIELDS_77 += 2" ∷ []) ∷ []))
+    ++ (replaced 14 0 ("\\begindata" ∷ "SCLK01_N_FIELDS_77 += 2" ∷ []) ∷ []))
 
 unfoldable pub plus : List Case
 plus =
@@ -86,7 +86,7 @@ inexact =
     ∷ coefficients ("0 -1E-6 18446744.073709551616" ∷ "600 1E-6 30E-9)" ∷ [])
     ∷ [])
 
--- 1 "(also lists not n long)", 2, 3 "(also not in threes)"
+-- 1 "(also lists not n long)", 2, 3 "(also not in threes)": the shortest of unequal lists, or the first row that breaks a rule
 unfoldable pub tables : List Case
 tables =
     each (refuse 1)
@@ -101,19 +101,18 @@ tables =
     ∷ instead 8 "SCLK01_OUTPUT_DELIM_77 = 0"
     ∷ instead 8 "SCLK01_OUTPUT_DELIM_77 = 6"
     ∷ instead 8 "SCLK01_OUTPUT_DELIM_77 = 257"
-    ∷ placed 5 3
+    ∷ replaced 5 3
     ("SCLK01_N_FIELDS_77 = 11" ∷ "SCLK01_MODULI_77 = ( 1 1 1 1 1 1 1 1 1 100 10 )" ∷ "SCLK01_OFFSETS_77 = ( 0 0 0 0 0 0 0 0 0 0 0 )" ∷ [])
     ∷ [])
-    ++ each (refuse 2)
+    ++ each (refuseAt 2 1)
     (instead 9 "SCLK_PARTITION_START_77 = 0"
-    ∷ instead 10 "SCLK_PARTITION_END_77 = ( 500 900 950 )"
     ∷ instead 9 "SCLK_PARTITION_START_77 = ( 0 900 )"
     ∷ instead 10 "SCLK_PARTITION_END_77 = ( 500 1000 )"
     ∷ [])
-    ++ each (refuse 3)
-    (instead 12 "600 1E-6 30E-9 700 )"
-    ∷ instead 12 "600 1E-6 30E-9 700 2E-6 )"
-    ∷ instead 12 "0 1E-6 30E-9 )"
+    ++ each (refuseAt 2 2) (instead 10 "SCLK_PARTITION_END_77 = ( 500 900 950 )" ∷ [])
+    ++ each (refuseAt 3 2) (instead 12 "600 1E-6 30E-9 700 )" ∷ instead 12 "600 1E-6 30E-9 700 2E-6 )" ∷ [])
+    ++ each (refuseAt 3 1)
+    (instead 12 "0 1E-6 30E-9 )"
     ∷ instead 12 "600 -1E-6 30E-9 )"
     ∷ instead 12 "600 1E-6 9.999E-9 )"
     ∷ instead 12 "1201 1E-6 30E-9 )"
@@ -122,21 +121,21 @@ tables =
 -- The order: of two faults the one that is first in it is given, wherever they stand. The cases of 16 are in the Texts of kernel_rules.
 unfoldable pub order : List Case
 order =
-    each (refuse 18) (placed 0 1 ("KPL/CK" ∷ "\\begindata" ∷ "X =" ∷ []) ∷ placed 0 6 ("" ∷ []) ∷ [])
+    each (refuse 18) (replaced 0 1 ("KPL/CK" ∷ "\\begindata" ∷ "X =" ∷ []) ∷ replaced 0 6 ("" ∷ []) ∷ [])
     ++ each (refuse 19)
-    (placed 9 5 ("SCLK_PARTITION_START_77 = 0.5" ∷ "X =" ∷ [])
-    ∷ placed 8 2 ("X =" ∷ "SCLK_PARTITION_START_77 = 0.5" ∷ [])
-    ∷ placed 4 2 ("SCLK01_TIME_SYSTEM_77 = 3" ∷ "SCLK01_N_FIELDS_77 = 2.5" ∷ [])
-    ∷ placed 9 2 ("SCLK_PARTITION_START_77 = ( 0.5 200 )" ∷ "SCLK_PARTITION_END_77 = ( 500 '900' )" ∷ [])
+    (replaced 9 5 ("SCLK_PARTITION_START_77 = 0.5" ∷ "X =" ∷ [])
+    ∷ replaced 8 2 ("X =" ∷ "SCLK_PARTITION_START_77 = 0.5" ∷ [])
+    ∷ replaced 4 2 ("SCLK01_TIME_SYSTEM_77 = 3" ∷ "SCLK01_N_FIELDS_77 = 2.5" ∷ [])
+    ∷ replaced 9 2 ("SCLK_PARTITION_START_77 = ( 0.5 200 )" ∷ "SCLK_PARTITION_END_77 = ( 500 '900' )" ∷ [])
     ∷ [])
     ++ each (refuse 20)
-    (placed 5 5 ("SCLK01_N_FIELDS_77 = 11" ∷ "SCLK01_MODULI_77 = 0" ∷ "SCLK01_OFFSETS_77 = 0" ∷ "SCLK01_OUTPUT_DELIM_77 = 9" ∷ "SCLK_PARTITION_START_77 = 0.5" ∷ [])
+    (replaced 5 5 ("SCLK01_N_FIELDS_77 = 11" ∷ "SCLK01_MODULI_77 = 0" ∷ "SCLK01_OFFSETS_77 = 0" ∷ "SCLK01_OUTPUT_DELIM_77 = 9" ∷ "SCLK_PARTITION_START_77 = 0.5" ∷ [])
     ∷ coefficients ("600 0 0 0 0.0000000001 )" ∷ [])
     ∷ [])
-    ++ each (refuse 1) (placed 8 2 ("SCLK01_OUTPUT_DELIM_77 = 6" ∷ "SCLK_PARTITION_START_77 = ( 0 900 )" ∷ []) ∷ [])
-    ++ each (refuse 2) (placed 10 3 ("SCLK_PARTITION_END_77 = ( 500 200 )" ∷ "SCLK01_COEFFICIENTS_77 = 0" ∷ []) ∷ [])
+    ++ each (refuse 1) (replaced 8 2 ("SCLK01_OUTPUT_DELIM_77 = 6" ∷ "SCLK_PARTITION_START_77 = ( 0 900 )" ∷ []) ∷ [])
+    ++ each (refuseAt 2 1) (replaced 10 3 ("SCLK_PARTITION_END_77 = ( 500 200 )" ∷ "SCLK01_COEFFICIENTS_77 = 0" ∷ []) ∷ [])
     -- more rows than are lent, and a rate too low
-    ++ each (refuse 3) (instead 12 "600 1E-6 30E-9 700 2E-6 9E-9 )" ∷ [])
+    ++ each (refuseAt 3 2) (instead 12 "600 1E-6 30E-9 700 2E-6 9E-9 )" ∷ [])
 
 unfoldable pub clauses : List Case
 clauses = missing ++ twice ++ plus ++ noNumber ++ inexact ++ tables ++ order

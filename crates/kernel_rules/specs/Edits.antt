@@ -36,22 +36,22 @@ shortA =
     ∷ []
 
 -- these lines in place of n of them, from line i on
-unfoldable pub placed : ℕ → ℕ → List String → List (List ℕ)
-placed i n ls = map bytes (take i shortA ++ ls ++ drop (i + n) shortA)
+unfoldable pub replaced : ℕ → ℕ → List String → List (List ℕ)
+replaced i n ls = map bytes (take i shortA ++ ls ++ drop (i + n) shortA)
 
 -- line i is another, is missing, or has another before it
 unfoldable pub instead : ℕ → String → List (List ℕ)
-instead i l = placed i 1 (l ∷ [])
+instead i l = replaced i 1 (l ∷ [])
 
 unfoldable pub without : ℕ → List (List ℕ)
-without i = placed i 1 []
+without i = replaced i 1 []
 
 unfoldable pub before : ℕ → String → List (List ℕ)
-before i l = placed i 0 (l ∷ [])
+before i l = replaced i 0 (l ∷ [])
 
 -- the lines of the coefficients
 unfoldable pub coefficients : List String → List (List ℕ)
-coefficients ls = placed 11 2 ("SCLK01_COEFFICIENTS_77=(" ∷ ls)
+coefficients ls = replaced 11 2 ("SCLK01_COEFFICIENTS_77=(" ∷ ls)
 
 pub record Case : Type 0 where
   pub lines : List (List ℕ)
@@ -73,5 +73,5 @@ readCase c = readLines (c .lines) (pos 77) (tablesA .lists)
 
 -- `unfolding editing` lets such a table compute
 unfoldable pub editing : Type 0
-unfolding reading shortA tablesA readLines placed instead without before coefficients case each readCase
+unfolding reading shortA tablesA readLines replaced instead without before coefficients case each readCase
 editing = Unit {0}

@@ -2,35 +2,35 @@
 use Prim.Native.Nat.{ℕ}
 use mathlib.Core.Path.{_≡_, refl}
 use mathlib.Core.List.{List, [], _∷_, _++_, map}
-use Rattle.rules.specs.Answer.{Answer, answer, refuse}
+use Rattle.rules.specs.Answer.{Answer, answer, refuse, refuseAt}
 use Rattle.kernel_rules.specs.Tables.{Tables}
 use Rattle.kernel_rules.specs.Examples.{tablesA}
-use Rattle.kernel_rules.specs.Edits.{Case, placed, instead, without, before, coefficients, each, unchanged, readCase, editing}
+use Rattle.kernel_rules.specs.Edits.{Case, replaced, instead, without, before, coefficients, each, unchanged, readCase, editing}
 
 -- Other names are passed over, wherever they stand. A line of any data block that the form forbids is not.
 unfoldable pub otherNames : List Case
 otherNames =
     each unchanged
-    (placed 8 0 ("X = 1" ∷ "X = 1" ∷ "X += ( 1 @a )" ∷ "SCLK_DATA_TYPE_7 = 'a'" ∷ "Y = 1E400" ∷ [])
-    ∷ placed 14 0 ("X = abc" ∷ "\\begindata" ∷ "X = ( 1" ∷ ")" ∷ [])
+    (replaced 8 0 ("X = 1" ∷ "X = 1" ∷ "X += ( 1 @a )" ∷ "SCLK_DATA_TYPE_7 = 'a'" ∷ "Y = 1E400" ∷ [])
+    ∷ replaced 14 0 ("X = abc" ∷ "\\begindata" ∷ "X = ( 1" ∷ ")" ∷ [])
     ∷ [])
-    ++ each (refuse 19) (before 8 "X = abc" ∷ before 13 "X =" ∷ placed 14 0 ("\\begindata" ∷ "X = abc" ∷ []) ∷ [])
+    ++ each (refuse 19) (before 8 "X = abc" ∷ before 13 "X =" ∷ replaced 14 0 ("\\begindata" ∷ "X = abc" ∷ []) ∷ [])
 
 -- No list is open at a \begintext line or the text's end. The text's end ends a block; several blocks are as one; with none the names are missing.
 unfoldable pub blocks : List Case
 blocks =
     each (refuse 19)
     (instead 12 "600 1E-6 30E-9"
-    ∷ placed 12 2 ("600 1E-6 30E-9" ∷ [])
-    ∷ placed 12 0 ("\\begintext" ∷ "\\begindata" ∷ [])
+    ∷ replaced 12 2 ("600 1E-6 30E-9" ∷ [])
+    ∷ replaced 12 0 ("\\begintext" ∷ "\\begindata" ∷ [])
     ∷ without 1
-    ∷ placed 1 13 []
+    ∷ replaced 1 13 []
     ∷ [])
     ++ each unchanged
     (before 8 "\\begindata"
-    ∷ placed 11 1 ("SCLK01_COEFFICIENTS_77=(" ∷ "\\begindata" ∷ "0 -1E-6" ∷ "\\begindata" ∷ "" ∷ "25.0E-9" ∷ [])
+    ∷ replaced 11 1 ("SCLK01_COEFFICIENTS_77=(" ∷ "\\begindata" ∷ "0 -1E-6" ∷ "\\begindata" ∷ "" ∷ "25.0E-9" ∷ [])
     ∷ without 13
-    ∷ placed 8 0 ("\\begintext" ∷ "X = (" ∷ "\\begintext" ∷ "\\begindata" ∷ [])
+    ∷ replaced 8 0 ("\\begintext" ∷ "X = (" ∷ "\\begintext" ∷ "\\begindata" ∷ [])
     ∷ [])
 
 -- Names are compared byte for byte.
@@ -102,29 +102,46 @@ exactly =
     ∷ instead 5 "SCLK01_N_FIELDS_77 = 2.5"
     ∷ instead 5 "SCLK01_N_FIELDS_77 = -2"
     ∷ [])
-    ++ each (refuse 3)
+    ++ each (refuseAt 3 0)
     (coefficients ("0 -1E-6 0E99999999999999999999 600 1E-6 30E-9 )" ∷ [])
     ∷ coefficients ("0 -9223372036.854775808 25E-9 600 1E-6 30E-9 )" ∷ [])
     ∷ coefficients ("0 9223372036.854775807 25E-9 600 1E-6 30E-9 )" ∷ [])
     ∷ [])
-    ++ each (refuse 2) (instead 9 "SCLK_PARTITION_START_77 = ( 18446744073709551615 200 )" ∷ [])
+    ++ each (refuseAt 2 0) (instead 9 "SCLK_PARTITION_START_77 = ( 18446744073709551615 200 )" ∷ [])
 
--- "not in threes" comes after every 20; a surplus coefficient has the unit of its place in its row.
+-- "not in threes" comes after every 20 and gives the shortest of the three lists; a surplus coefficient has the unit of its place in its row.
 unfoldable pub threes : List Case
 threes =
-    each (refuse 3)
+    each (refuseAt 3 2)
     (coefficients ("0 -1E-6 25E-9 600 1E-6 30E-9 700 )" ∷ [])
     ∷ coefficients ("0 -1E-6 25E-9 600 1E-6 30E-9 700 1 )" ∷ [])
-    ∷ coefficients ("0 )" ∷ [])
     ∷ [])
+    ++ each (refuseAt 3 0) (coefficients ("0 )" ∷ []) ∷ [])
     ++ each (refuse 20)
     (coefficients ("0 -1E-6 25E-9 600 1E-6 30E-9 700 0.0000000001 )" ∷ [])
     ∷ coefficients ("0 -1E-6 25E-9 600 1E-6 30E-9 0.5 )" ∷ [])
     ∷ [])
 
+-- 2 and 3 at "the first row, from 0, that breaks a rule", or at "the shortest length"
+unfoldable pub places : List Case
+places =
+    each (refuseAt 2 1)
+    (instead 9 "SCLK_PARTITION_START_77 = ( 0 900 )"
+    ∷ instead 10 "SCLK_PARTITION_END_77 = ( 500 1000 )"
+    ∷ instead 10 "SCLK_PARTITION_END_77 = ( 1000 )"
+    ∷ instead 9 "SCLK_PARTITION_START_77 = 600"
+    ∷ [])
+    ++ each (refuseAt 2 2) (instead 9 "SCLK_PARTITION_START_77 = ( 600 200 300 )" ∷ [])
+    ++ each (refuseAt 3 1)
+    (coefficients ("0 -1E-6 25E-9 600 -1E-6 30E-9 )" ∷ [])
+    ∷ coefficients ("0 -1E-6 25E-9 600 1E-6 30E-10 )" ∷ [])
+    ∷ coefficients ("0 -1E-6 25E-9 1201 1E-6 30E-9 )" ∷ [])
+    ∷ [])
+    ++ each (refuseAt 3 0) (coefficients ("0 -1E-6 25E-9 18446744073709551615 1E-6 30E-9 )" ∷ []) ∷ [])
+
 unfoldable pub readings : List Case
-readings = otherNames ++ blocks ++ nameBytes ++ kernelIds ++ typesAndSystems ++ exactly ++ threes
+readings = otherNames ++ blocks ++ nameBytes ++ kernelIds ++ typesAndSystems ++ exactly ++ threes ++ places
 
 pub readings-hold : map readCase readings ≡ map (λ c. c .expected) readings
-unfolding editing otherNames blocks nameBytes kernelIds inSystem typesAndSystems withRate exactly threes readings
+unfolding editing otherNames blocks nameBytes kernelIds inSystem typesAndSystems withRate exactly threes places readings
 readings-hold = refl

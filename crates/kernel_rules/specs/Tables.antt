@@ -203,7 +203,7 @@ partitionsIn g = partitions (g .starts) (g .ends)
 abbrev pub segmentsIn : Lists → Segments
 segmentsIn g = segments (g .counts) (g .times) (g .rates)
 
--- "then 1 (also lists not n long), 2, 3 (also not in threes)": not in threes leaves columns of unequal length
+-- "then 1 (also lists not n long), 2, 3 (also not in threes)": not in threes leaves columns of unequal length, so 3 is at the shortest
 unfoldable pub tablesAccepted : Tables → Answer Tables
 tablesAccepted t =
     unless 1 (eqb (length (t .lists .moduli)) (t .n) && eqb (length (t .lists .offsets)) (t .n))

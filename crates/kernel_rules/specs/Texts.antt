@@ -5,7 +5,7 @@ use mathlib.Core.Path.{_≡_, refl}
 use mathlib.Core.List.{List, [], _∷_, _++_, map}
 use lib.IntN.{ℤ, pos, negsuc}
 use lib.ListN.{replicate}
-use Rattle.rules.specs.Answer.{Answer, refuse}
+use Rattle.rules.specs.Answer.{Answer, refuse, refuseAt}
 use Rattle.rules.specs.Examples.{bytes}
 use Rattle.kernel_rules.specs.Tables.{Lists, Tables}
 use Rattle.kernel_rules.specs.Kernel.{readKernel, listsAfter}
@@ -155,6 +155,6 @@ unfolding editing nines readInto
 rest-kept = (refl, refl)
 
 -- 3 before 16, however short the lists are
-pub sixteen-last : readLines (instead 12 "600 1E-6 9E-9 )") (pos 77) (nines 0 0 0 0 0 0 0) ≡ refuse 3
+pub sixteen-last : readLines (instead 12 "600 1E-6 9E-9 )") (pos 77) (nines 0 0 0 0 0 0 0) ≡ refuseAt 3 1
 unfolding editing nines
 sixteen-last = refl

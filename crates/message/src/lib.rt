@@ -1,6 +1,9 @@
 // A message: payload, clock text, and a two-byte trailer with the text's length.
 ghost use mathlib.Core.Path.{_≡_};
+ghost use mathlib.Core.Bool.{_&&_};
 ghost use Prim.Native.Nat.{_+_, _*_};
+ghost use lib.Dec.{leb};
+ghost use Rattle.rules.specs.Limits.{longestText};
 ghost use Rattle.rules.specs.Answer.{readAnswer};
 ghost use Rattle.rules.specs.Partitions.{partitions};
 ghost use Rattle.rules.specs.Message.{textIn, readMessage};
@@ -33,20 +36,27 @@ pub fn text_start(message: &[u8]) -> TextStart
 {
     let length = message.len();
     if length < 2 {
-        return TextStart::Refused(refusals::MESSAGE);
+        return TextStart::Refused(refusals::NO_TRAILER);
     }
     let end = length - 2;
     let distance = number(message[end], message[length - 1]);
     if distance < 1 {
-        return TextStart::Refused(refusals::MESSAGE);
+        return TextStart::Refused(refusals::NO_TEXT);
     }
-    if LONGEST_TEXT < distance {
-        return TextStart::Refused(refusals::MESSAGE);
-    }
-    if end < distance {
-        return TextStart::Refused(refusals::MESSAGE);
+    if !is_near(distance, end) {
+        return TextStart::Refused(refusals::WRONG_DISTANCE);
     }
     TextStart::At(end - distance)
+}
+
+// At most 96 bytes back, and no further than the message's first byte.
+fn is_near(distance: usize, end: usize) -> bool
+    ensures { λ r. ⌜ r ≡ (leb distance longestText && leb distance end) ⌝ }
+{
+    if LONGEST_TEXT < distance {
+        return false;
+    }
+    distance <= end
 }
 
 // The bytes from there to the trailer.

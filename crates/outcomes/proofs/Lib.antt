@@ -1,2 +1,3 @@
 pub mod StampWithin
+pub mod Ladder
 pub mod Refusals

@@ -15,7 +15,7 @@ use Rattle.rules.specs.declared.Reading.{Reading}
 use Rattle.rules.specs.Answer.{Answer, answer, refused, andThen, reading}
 use Rattle.rules.specs.Partitions.{Partitions, partitionsIn, startOf, endOf, lengthOf, lengthsBefore, totalOf}
 use Rattle.rules.specs.Stamp.{Parsed, named, unnamed, holds, encodedIn, encodeNamed, encodeFound, encodeFirst, encode, readStamp}
-use Rattle.rules.proofs.Answers.{not-answer, unless-test, unless-rest}
+use Rattle.rules.proofs.Answers.{not-answer, unless-test, unless-rest, unless-at-rest}
 
 module _ {A B : Type 0} (Q : B → Type 0) where
   -- what holds of every answer of a step holds of the answer after it
@@ -64,4 +64,4 @@ module _ (p : Partitions) where
 pub stamp-within : (l : Layout) (p : Partitions) (s : List ℕ) (r : Reading) → readStamp l p s ≡ answer r → leb (r .count) (totalOf p) ≡ true
 unfolding readStamp
 stamp-within l p s r h =
-    le-leb (r .count) (totalOf p) (then-answer (Within p) _ (encode p) (λ x _. encode-within p x) r (unless-rest 2 _ _ r (unless-rest 1 _ _ r h)))
+    le-leb (r .count) (totalOf p) (then-answer (Within p) _ (encode p) (λ x _. encode-within p x) r (unless-at-rest 2 _ _ r (unless-rest 1 _ _ r h)))

@@ -1,35 +1,35 @@
 -- What each way out of parsing a text or a stamp says.
-use Prim.Native.Nat.{ℕ, _+_, _≤_, _<_, min}
+use Prim.Native.Nat.{ℕ, _+_, _-_, _≤_, _<_, min}
 use mathlib.Core.Path.{_≡_, refl, sym, ap, subst, _∙_}
-use mathlib.Core.Bool.{Bool, true, false}
+use mathlib.Core.Bool.{Bool, true, false, cond, _&&_}
 use mathlib.Core.List.{List}
 use mathlib.Core.Logic.{⊎-elim}
-use mathlib.Core.Option.{some}
+use mathlib.Core.Option.{none, some}
 use lib.Dec.{ltb, eqb}
-use lib.ListN.{length, getD, take, drop}
-use lib.Seq.{length-take-le, getD-take}
+use lib.ListN.{length, take, drop}
 use native.Mathlib.Omega.{arith}
-use borrow.Author.Tests.{le-leb, lt-leb, eq-eqb, eqb-true, eqb-false, ltb-true, ltb-false}
-use Rattle.base.specs.Scans.{all}
-use Rattle.base.proofs.Tests.{by-test, not-both}
+use borrow.Author.Tests.{le-leb, lt-leb, lt-ltb, ltb-true, ltb-false, eqb-true, eqb-false}
+use Rattle.base.specs.Scans.{among}
+use Rattle.base.proofs.Tests.{by-test, not-both, and-both, and-first, and-second}
 use Rattle.base.proofs.Scans.{First, first-or}
 use Rattle.rules.specs.Limits.{longestText}
 use Rattle.rules.specs.declared.Refusal.{Refusal}
 use Rattle.rules.specs.declared.Reading.{Reading}
 use Rattle.rules.specs.declared.ReadAnswer.{ReadAnswer}
 use Rattle.rules.specs.declared.ReadAnswer.the-variants as Reads
-use Rattle.rules.specs.Answer.{Answer, answer, refused, refuse, unless, andThen, readAnswer}
-use Rattle.rules.specs.Text.{isAllowed, bytesCount, parseText}
-use Rattle.rules.specs.Stamp.{slashIn, frontOk, frontNumber, Parsed, named, unnamed, parsedAt, parseStamp}
+use Rattle.rules.specs.Answer.{Answer, answer, refused, refuse, placed, unless, unlessAt, failsAt, andThen, readAnswer}
+use Rattle.rules.specs.Text.{notAllowedFrom, fieldsFrom, fieldsCount, bytesCount, parseText}
+use Rattle.rules.specs.Stamp.{slashIn, frontNumber, Parsed, named, unnamed, parsedAt, parseStamp}
 use Rattle.fields.specs.declared.Pass.{Pass}
 use Rattle.fields.specs.declared.Scanned.{Scanned}
-use Rattle.fields.specs.Pass.{fieldCap, begun, scanFrom, total, alone}
+use Rattle.fields.specs.Pass.{fieldCap, begun, scanFrom, frontScanFrom, total}
+use Rattle.fields.proofs.Over.{run}
 use Rattle.fields.proofs.Ladder.{counted}
-use Rattle.fields.proofs.Front.{front-one, front-value}
-use Rattle.fields.proofs.Stops.{all-not, all-allowed, whole-pass, not-allowed, front-allowed, front-pass, front-stop}
+use Rattle.fields.proofs.Front.{Scan, scan-of, front-value}
+use Rattle.fields.proofs.Stops.{all-allowed, whole-pass, not-allowed}
 use Rattle.parse.specs.declared.ParsedStamp.{ParsedStamp}
 use Rattle.parse.specs.ParsedStamp.{parsedAnswer, capped}
-use Rattle.parse.proofs.Slash.{no-slash-byte, all-at-place, slash, slash-first, slash-none, no-slash}
+use Rattle.parse.proofs.Slash.{slash, slash-first, slash-none, no-slash, no-slash-before, among-found, among-none}
 
 -- a count is passed on with its number, and so is a refusal
 module _ (q : ReadAnswer) (f : Reading → Answer Parsed) where
@@ -42,16 +42,18 @@ module _ (q : ReadAnswer) (f : Reading → Answer Parsed) where
   parsed-refused k e = rw e
 
 -- a text from the place i on
-module _ (ms os s : List ℕ) (i : ℕ) (w : Scanned) (e : w ≡ scanFrom ms os begun i (drop i s)) (l : i ≤ length s) where
-  pub count-other : w .at < length s → refuse 5 ≡ bytesCount ms os (drop i s)
-  unfolding bytesCount unless
-  count-other h = rw (not-allowed ms os s i w e l h)
+module _ (ms os s : List ℕ) (i : ℕ) (b : Pass) (z : b ≡ begun) (w : Scanned) (e : w ≡ scanFrom ms os (length s) b i (drop i s)) (l : i ≤ length s) where
+  pub count-other : (k : Refusal) → w .at < length s → k ≡ placed 5 (w .at) → refused k ≡ bytesCount ms os s i
+  unfolding bytesCount unlessAt
+  count-other k h f = rw (not-allowed ms os (length s) s b i w e l h, f)
 
-  pub count-all : (r : ReadAnswer) → length os ≡ length ms → 1 ≤ length ms → length s ≤ w .at → readAnswer r ≡ total ms os (w .pass) → readAnswer r ≡ bytesCount ms os (drop i s)
-  unfolding bytesCount unless
+  pub count-all : (r : ReadAnswer) → length os ≡ length ms → 1 ≤ length ms → length s ≤ w .at → readAnswer r ≡ total ms os (length s) (w .pass) → readAnswer r ≡ bytesCount ms os s i
+  unfolding bytesCount unlessAt
   count-all r o n h c =
-      rw (all-allowed ms os s i w e l h)
-      (c ∙ ap (total ms os) (whole-pass ms os s i w e l h) ∙ counted ms os o (drop i s) n)
+      rw (all-allowed ms os (length s) s b i w e l h)
+      (c
+      ∙ ap (total ms os (length s)) (whole-pass ms os (length s) s b i w e l h ∙ ap (λ (q : Pass). run ms os (length s) q i (drop i s)) z)
+      ∙ counted ms os (length s) o i (drop i s) n)
 
 -- 4, then what the text says
 module _ (ms os s : List ℕ) where
@@ -59,7 +61,7 @@ module _ (ms os s : List ℕ) where
   unfolding parseText unless
   text-long h = rw (lt-leb (length s) longestText h)
 
-  pub text-short : (a : Answer Reading) → length s ≤ longestText → a ≡ bytesCount ms os s → a ≡ parseText ms os s
+  pub text-short : (a : Answer Reading) → length s ≤ longestText → a ≡ bytesCount ms os s 0 → a ≡ parseText ms os s
   unfolding parseText unless
   text-short a h e = rw (le-leb (length s) longestText h) e
 
@@ -78,80 +80,103 @@ unfolding capped andThen
 capped-unnamed (answer c) = refl
 capped-unnamed (refused n) = refl
 
-module _ (ms os s : List ℕ) (short : length s ≤ longestText) (w : Scanned) (e : w ≡ scanFrom ms os begun 0 s) where
+-- a short text after its front part is scanned; t: a `/` ends it
+module _ (ms os s : List ℕ) (short : length s ≤ longestText) (w : Scanned) (e : w ≡ frontScanFrom begun 0 s) (t : Bool) (d : t ≡ (ltb (w .at) (length s) && slash s (w .at))) where
   parse-short : parseStamp ms os s ≡ parsedAt ms os s (slashIn s)
   unfolding parseStamp unless
   parse-short = rw (le-leb (length s) longestText short)
 
-  before-stop : (j : ℕ) → w .at ≤ length s → j < w .at → slash s j ≡ false
-  before-stop j h l =
-      no-slash-byte (getD s j 0)
-      (rw (getD-take (w .at) s j 0 l) at (all-at-place (take (w .at) s) j (front-allowed ms os s w e) (omega (arith, length-take-le (w .at) s h))))
+  scanned : Scan ms os (length s) s w
+  scanned = scan-of ms os (length s) s w e
 
-  -- no `/`
-  pub stamp-unnamed : (k : ReadAnswer) (r : ParsedStamp) → length os ≡ length ms → 1 ≤ length ms → length s ≤ w .at → readAnswer k ≡ total ms os (w .pass) →
-      parsedAnswer r ≡ andThen (readAnswer k) (λ c. answer (unnamed c)) →
-      parsedAnswer r ≡ capped (parseStamp ms os s)
-  unfolding parsedAt
-  stamp-unnamed k r o n h c f =
-      rw (parse-short, no-slash s (all-allowed ms os s 0 w e (omega arith) h))
-      (f ∙ ap (λ x. andThen x (λ q. answer (unnamed q))) (count-all ms os s 0 w e (omega arith) k o n h c) ∙ sym (capped-unnamed (bytesCount ms os s)))
+  pub front-within : w .at ≤ length s
+  front-within = scanned .within
 
-  module _ (h : w .at < length s) where
-    after-stop : (i : ℕ) → First (slash s) (length s) i → (getD s (w .at) 0 ≡ 47 → ⊥) → w .at < i
-    after-stop i f d =
-        by-test (ltb i (w .at))
-        (λ t. absurd (not-both (f .holds) (before-stop i (omega arith) (ltb-true i (w .at) t))))
-        (λ n. by-test (eqb i (w .at))
-        (λ t. absurd (d (eqb-true (getD s (w .at) 0) 47 (subst (λ j. slash s j ≡ true) (eqb-true i (w .at) t) (f .holds)))))
-        (λ m. above (ltb-false i (w .at) n) (eqb-false i (w .at) m)))
-      where
-        above : w .at ≤ i → (i ≡ w .at → ⊥) → w .at < i
-        above a b = omega arith
+  module _ (y : t ≡ true) where
+    below : w .at < length s
+    below = ltb-true _ _ (and-first (ltb (w .at) (length s)) _ (sym d ∙ y))
 
-    other-after : (i : ℕ) → w .at < i → i ≤ length s → all isAllowed (take i s) ≡ false
-    other-after i l b =
-        all-not isAllowed (take i s) (w .at) (omega (arith, length-take-le i s b)) (rw (getD-take i s (w .at) 0 l) (front-stop ms os s w e h))
+    slash-here : slashIn s ≡ some (w .at)
+    slash-here =
+        slash-first s (w .at)
+        (record { below = below; holds = and-second (ltb (w .at) (length s)) _ (sym d ∙ y); before = scanned .no-slash })
 
-    -- another byte
-    pub stamp-other : (getD s (w .at) 0 ≡ 47 → ⊥) → refuse 5 ≡ capped (parseStamp ms os s)
-    unfolding parsedAt unless frontOk bytesCount andThen capped
-    stamp-other d =
-        ⊎-elim
-        (λ f. rw (parse-short, slash-first s (f .0) (f .1), other-after (f .0) (after-stop (f .0) (f .1) d) (omega (arith, f .1 .below))))
-        (λ f. rw (parse-short, slash-none s f, not-allowed ms os s 0 w e (omega arith) h))
-        (first-or (slash s) (length s))
+    pub front-place : w .at + 1 ≤ length s
+    front-place = omega (arith, below)
 
-    -- a `/`
-    module _ (y : getD s (w .at) 0 ≡ 47) where
-      slash-here : slashIn s ≡ some (w .at)
-      slash-here =
-          slash-first s (w .at)
-          (record { below = h; holds = eq-eqb (getD s (w .at) 0) 47 y; before = λ j l. before-stop j (omega arith) l })
+    pub front-small : (m : ℕ) → longestText < m → w .at + 1 < m
+    front-small m h = omega (arith, below)
 
-      front-is : frontOk (take (w .at) s) ≡ alone (w .pass)
-      unfolding frontOk
-      front-is = rw (front-allowed ms os s w e) (sym (ap alone (front-pass ms os s w e) ∙ front-one ms os (take (w .at) s)))
+    pub front-bad : (k : Refusal) → w .pass .present ≡ false → k ≡ placed 5 (w .at) → refused k ≡ capped (parseStamp ms os s)
+    unfolding parsedAt unlessAt failsAt capped
+    front-bad k n f = rw (parse-short, slash-here, scanned .here, n, f)
 
-      pub front-bad : (t : Bool) → t ≡ alone (w .pass) → t ≡ false → refuse 5 ≡ capped (parseStamp ms os s)
-      unfolding parsedAt unless capped
-      front-bad t a f = rw (parse-short, slash-here, front-is, sym a ∙ f)
+    module _ (some-fields : 1 ≤ length ms) where
+      number-is : w .pass .value ≡ min (frontNumber (take (w .at) s)) fieldCap
+      unfolding frontNumber
+      number-is =
+          ap (λ (q : Pass). q .value) (scanned .passed)
+          ∙ front-value ms os (length s) some-fields (take (w .at) s) (ap (λ (q : Pass). q .field) (sym (scanned .passed)) ∙ scanned .field)
 
-      module _ (t : Bool) (a : t ≡ alone (w .pass)) (good : t ≡ true) where
-        number-is : w .pass .value ≡ min (frontNumber (take (w .at) s)) fieldCap
-        unfolding frontNumber
-        number-is =
-            ap (λ (q : Pass). q .value) (front-pass ms os s w e)
-            ∙ front-value ms os (take (w .at) s) (sym (front-one ms os (take (w .at) s)) ∙ sym (ap alone (front-pass ms os s w e)) ∙ sym a ∙ good)
+      pub stamp-named : (k : ReadAnswer) (r : ParsedStamp) → w .pass .present ≡ true →
+          readAnswer k ≡ bytesCount ms os s (w .at + 1) →
+          parsedAnswer r ≡ andThen (readAnswer k) (λ c. answer (named (w .pass .value) c)) →
+          parsedAnswer r ≡ capped (parseStamp ms os s)
+      unfolding parsedAt unlessAt failsAt
+      stamp-named k r g c f =
+          rw (parse-short, slash-here, scanned .here, g)
+          (f
+          ∙ ap (λ x. andThen x (λ q. answer (named (w .pass .value) q))) c
+          ∙ ap (λ v. andThen (bytesCount ms os s (w .at + 1)) (λ q. answer (named v q))) number-is
+          ∙ sym (capped-named (frontNumber (take (w .at) s)) (bytesCount ms os s (w .at + 1))))
 
-        pub stamp-named : (k : ReadAnswer) (r : ParsedStamp) →
-            readAnswer k ≡ bytesCount ms os (drop (w .at + 1) s) →
-            parsedAnswer r ≡ andThen (readAnswer k) (λ c. answer (named (w .pass .value) c)) →
-            parsedAnswer r ≡ capped (parseStamp ms os s)
-        unfolding parsedAt unless
-        stamp-named k r c f =
-            rw (parse-short, slash-here, front-is, sym a ∙ good)
-            (f
-            ∙ ap (λ x. andThen x (λ q. answer (named (w .pass .value) q))) c
-            ∙ ap (λ v. andThen (bytesCount ms os (drop (w .at + 1) s)) (λ q. answer (named v q))) number-is
-            ∙ sym (capped-named (frontNumber (take (w .at) s)) (bytesCount ms os (drop (w .at + 1) s))))
+  -- no `/` ends it: the pass goes on
+  module _ (n : t ≡ false) (v : Scanned) (g : v ≡ scanFrom ms os (length s) (w .pass) (w .at) (drop (w .at) s)) where
+    -- no `/`, and every byte is allowed
+    pub stamp-unnamed : (k : ReadAnswer) (r : ParsedStamp) → length os ≡ length ms → 1 ≤ length ms → length s ≤ v .at → readAnswer k ≡ total ms os (length s) (v .pass) →
+        parsedAnswer r ≡ andThen (readAnswer k) (λ c. answer (unnamed c)) →
+        parsedAnswer r ≡ capped (parseStamp ms os s)
+    unfolding parsedAt bytesCount unlessAt
+    stamp-unnamed k r o some-fields h c f =
+        let good : notAllowedFrom 0 s ≡ none = scanned .allowed ∙ all-allowed ms os (length s) s (w .pass) (w .at) v g front-within h in
+        let passed : v .pass ≡ run ms os (length s) begun 0 s = whole-pass ms os (length s) s (w .pass) (w .at) v g front-within h ∙ sym (scanned .onward) in
+        rw (parse-short, slash-none s (no-slash s 0 good), good)
+        (f
+        ∙ ap (λ x. andThen x (λ q. answer (unnamed q))) (c ∙ ap (total ms os (length s)) passed ∙ counted ms os (length s) o 0 s some-fields)
+        ∙ sym (capped-unnamed (fieldsCount ms os (length s) (fieldsFrom 0 s))))
+
+    -- a byte that is not allowed, with a `/` behind it or without
+    module _ (h : v .at < length s) where
+      bad : notAllowedFrom 0 s ≡ some (v .at)
+      bad = scanned .allowed ∙ not-allowed ms os (length s) s (w .pass) (w .at) v g front-within h
+
+      pub stamp-other : (k : Refusal) (i : ℕ) → i ≡ cond (among 47 (drop (v .at) s)) (w .at) (v .at) → k ≡ placed 5 i → refused k ≡ capped (parseStamp ms os s)
+      unfolding parsedAt unlessAt bytesCount andThen capped
+      stamp-other k i c f =
+          ⊎-elim
+          (λ q. let j = q .0 in
+          let from = after j (q .1) in
+          rw (parse-short, slash-first s j (q .1), scanned .further j (beyond j (q .1)) (omega (arith, q .1 .below)), f, c, among-found s (j - v .at) (v .at) j (omega (arith, from)) (q .1 .below) (q .1 .holds)))
+          (λ q. rw (parse-short, slash-none s q, bad, f, c, among-none s (length s) (v .at) (omega arith) q))
+          (first-or (slash s) (length s))
+        where
+          after : (j : ℕ) → First (slash s) (length s) j → v .at ≤ j
+          after j q =
+              by-test (ltb j (v .at))
+              (λ l. absurd (not-both (q .holds) (no-slash-before s 0 (v .at) bad j (omega (arith, ltb-true j (v .at) l)))))
+              (λ l. ltb-false j (v .at) l)
+
+          here : (j : ℕ) → First (slash s) (length s) j → j ≤ w .at → (ltb (w .at) (length s) && slash s (w .at)) ≡ true
+          here j q l =
+              by-test (eqb j (w .at))
+              (λ m. subst (λ i. (ltb i (length s) && slash s i) ≡ true) (eqb-true j (w .at) m) (and-both (lt-ltb j (length s) (q .below)) (q .holds)))
+              (λ m. absurd (not-both (q .holds) (scanned .no-slash j (less (eqb-false j (w .at) m)))))
+            where
+              less : (j ≡ w .at → ⊥) → j < w .at
+              less u = omega arith
+
+          beyond : (j : ℕ) → First (slash s) (length s) j → w .at < j
+          beyond j q =
+              by-test (ltb (w .at) j)
+              (λ l. ltb-true (w .at) j l)
+              (λ l. absurd (not-both (here j q (ltb-false (w .at) j l)) (sym d ∙ n)))

@@ -1,14 +1,18 @@
 // Clock text to its count, and a stamp to the partition's number and the count: what is written, before any partition is looked at.
 ghost use mathlib.Core.Path.{_≡_};
+ghost use mathlib.Core.Bool.{_&&_, cond};
 ghost use Prim.Native.Nat.{_≤_};
-ghost use lib.ListN.{length, drop};
+ghost use lib.Dec.{ltb, eqb};
+ghost use lib.ListN.{length, getD, drop};
+ghost use Rattle.base.specs.Scans.{among};
 ghost use Rattle.rules.specs.Answer.{answer, andThen, readAnswer};
 ghost use Rattle.rules.specs.Text.{bytesCount, parseText};
 ghost use Rattle.rules.specs.Stamp.{named, unnamed, parseStamp};
 ghost use Rattle.parse.specs.ParsedStamp.{parsedAnswer, capped};
+use fields::begin;
 use fields::count;
-use fields::is_number;
 use fields::scan;
+use fields::scan_front;
 use layouts::limits::LONGEST_TEXT;
 use rules::ReadAnswer;
 use rules::Reading;
@@ -32,7 +36,7 @@ pub fn parse_text(moduli: &[u64], offsets: &[u64], text: &[u8]) -> ReadAnswer
     count_from(moduli, offsets, text, 0)
 }
 
-// One scan reaches the end of the text or the `/`; after a `/` another reads the rest.
+// A front part is scanned first; where no `/` ends it, the pass goes on over the rest of the text.
 pub fn parse_stamp(moduli: &[u64], offsets: &[u64], text: &[u8]) -> ParsedStamp
     requires { ⌜ (1 ≤ length (now moduli)) × (length (now offsets) ≡ length (now moduli)) ⌝ }
     ensures { λ r. ⌜ parsedAnswer r ≡ capped (parseStamp (now (moduli .entry)) (now (offsets .entry)) (now (text .entry))) ⌝ }
@@ -40,34 +44,61 @@ pub fn parse_stamp(moduli: &[u64], offsets: &[u64], text: &[u8]) -> ParsedStamp
     if LONGEST_TEXT < text.len() {
         return ParsedStamp::Refused(refusals::TEXT_TOO_LONG);
     }
-    let front = scan(moduli, offsets, text, 0);
+    let front = scan_front(text);
     let at = front.at;
     let pass = front.pass;
+    if is_slash(text, at) {
+        if !pass.present {
+            return ParsedStamp::Refused(refusals::byte_not_allowed(at));
+        }
+        let number = pass.value;
+        return with_number(number, count_from(moduli, offsets, text, at + 1));
+    }
+    let whole = scan(moduli, offsets, text, pass, at);
+    let stop = whole.at;
+    let passed = whole.pass;
+    if text.len() <= stop {
+        return without_number(count(moduli, offsets, text.len(), passed));
+    }
+    ParsedStamp::Refused(refusals::byte_not_allowed(earliest(text, at, stop)))
+}
+
+// Whether a `/` stands at the place `at`.
+fn is_slash(text: &[u8], at: usize) -> bool
+    ensures { λ r. ⌜ r ≡ (ltb at (length (now (text .entry))) && eqb (getD (now (text .entry)) at 0) 47) ⌝ }
+{
     if text.len() <= at {
-        return without_number(count(moduli, offsets, pass));
+        return false;
     }
-    if text[at] != b'/' {
-        return ParsedStamp::Refused(refusals::BYTE_NOT_ALLOWED);
+    text[at] == b'/'
+}
+
+// Which byte is at fault where the one at `stop` is not allowed: before a `/` already the one at `front`, which can't stand in a front part.
+fn earliest(text: &[u8], front: usize, stop: usize) -> usize
+    ensures { λ r. ⌜ r ≡ cond (among 47 (drop stop (now (text .entry)))) front stop ⌝ }
+{
+    let mut i = stop;
+    while i < text.len() {
+        if text[i] == b'/' {
+            return front;
+        }
+        i += 1;
     }
-    if !is_number(pass) {
-        return ParsedStamp::Refused(refusals::BYTE_NOT_ALLOWED);
-    }
-    let number = pass.value;
-    with_number(number, count_from(moduli, offsets, text, at + 1))
+    stop
 }
 
 // The count of the text from the place `from` on.
 fn count_from(moduli: &[u64], offsets: &[u64], text: &[u8], from: usize) -> ReadAnswer
     requires { ⌜ (1 ≤ length (now moduli)) × (length (now offsets) ≡ length (now moduli)) × (from ≤ length (now text)) ⌝ }
-    ensures { λ r. ⌜ readAnswer r ≡ bytesCount (now (moduli .entry)) (now (offsets .entry)) (drop from (now (text .entry))) ⌝ }
+    ensures { λ r. ⌜ readAnswer r ≡ bytesCount (now (moduli .entry)) (now (offsets .entry)) (now (text .entry)) from ⌝ }
 {
-    let scanned = scan(moduli, offsets, text, from);
+    let scanned = scan(moduli, offsets, text, begin(), from);
     let at = scanned.at;
     if at < text.len() {
-        return ReadAnswer::Refused(refusals::BYTE_NOT_ALLOWED);
+        return ReadAnswer::Refused(refusals::byte_not_allowed(at));
     }
     let pass = scanned.pass;
-    count(moduli, offsets, pass)
+    count(moduli, offsets, text.len(), pass)
 }
 
 fn with_number(number: u64, counted: ReadAnswer) -> ParsedStamp

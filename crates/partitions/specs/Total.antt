@@ -1,7 +1,12 @@
 -- What a partition check answers.
-use Prim.Native.Nat.{ℕ}
-use Rattle.rules.specs.Answer.{Answer, answer, refused, unless}
-use Rattle.rules.specs.Partitions.{Partitions, partitionsOk, totalOf}
+use Prim.Native.Nat.{ℕ, _+_, _-_}
+use mathlib.Core.Bool.{Bool}
+use mathlib.Core.List.{[], _∷_}
+use lib.Dec.{leb, ltb}
+use Rattle.base.specs.Scans.{allOf}
+use Rattle.rules.specs.Limits.{largestTotal}
+use Rattle.rules.specs.Answer.{Answer, answer, refused, unlessAt}
+use Rattle.rules.specs.Partitions.{Partitions, partitionsFault, totalOf}
 use Rattle.partitions.specs.declared.TotalAnswer.{TotalAnswer}
 use Rattle.partitions.specs.declared.TotalAnswer.the-variants as Of
 
@@ -11,4 +16,8 @@ totalAnswer (Of.Refused k) = refused k
 
 -- 2, and the total of partitions under P
 unfoldable pub acceptedTotal : ℕ → Partitions → Answer ℕ
-acceptedTotal P p = unless 2 (partitionsOk P p) (answer (totalOf p))
+acceptedTotal P p = unlessAt 2 (partitionsFault P p) (answer (totalOf p))
+
+-- what a row must meet, behind rows with this sum of lengths
+unfoldable pub rowOk : ℕ → ℕ → ℕ → ℕ → Bool
+rowOk P total start end = allOf (ltb start end ∷ ltb end P ∷ leb (total + (end - start)) largestTotal ∷ [])

@@ -1,7 +1,9 @@
 // The partition check, with the total.
 ghost use mathlib.Core.Path.{_≡_};
+ghost use Prim.Native.Nat.{_≤_};
+ghost use Rattle.rules.specs.Limits.{largestTotal};
 ghost use Rattle.rules.specs.Partitions.{partitions};
-ghost use Rattle.partitions.specs.Total.{totalAnswer, acceptedTotal};
+ghost use Rattle.partitions.specs.Total.{totalAnswer, acceptedTotal, rowOk};
 use layouts::limits::MOST_PARTITIONS;
 use rules::Layout;
 use rules::Refusal;
@@ -12,36 +14,47 @@ pub enum TotalAnswer {
     Refused(Refusal),
 }
 
-// `product` is the P of the layout.
+// `product` is the P of the layout. Wrong lengths come first; then the first row that breaks a rule.
 pub fn check(product: u64, starts: &[u64], ends: &[u64]) -> TotalAnswer
     ensures { λ r. ⌜ totalAnswer r ≡ acceptedTotal product (partitions (now (starts .entry)) (now (ends .entry))) ⌝ }
 {
     let n = starts.len();
-    if ends.len() != n {
-        return TotalAnswer::Refused(refusals::PARTITIONS);
+    if ends.len() < n {
+        return TotalAnswer::Refused(refusals::partitions(ends.len()));
+    }
+    if n < ends.len() {
+        return TotalAnswer::Refused(refusals::partitions(n));
     }
     if n < 1 {
-        return TotalAnswer::Refused(refusals::PARTITIONS);
+        return TotalAnswer::Refused(refusals::partitions(n));
     }
     if MOST_PARTITIONS < n {
-        return TotalAnswer::Refused(refusals::PARTITIONS);
+        return TotalAnswer::Refused(refusals::partitions(n));
     }
     let mut total: u64 = 0;
     let mut i = 0;
     while i < n {
         let start = starts[i];
         let end = ends[i];
-        if end <= start {
-            return TotalAnswer::Refused(refusals::PARTITIONS);
-        }
-        if product <= end {
-            return TotalAnswer::Refused(refusals::PARTITIONS);
-        }
-        if Layout::LARGEST_P - total < end - start {
-            return TotalAnswer::Refused(refusals::PARTITIONS);
+        if !row_ok(product, total, start, end) {
+            return TotalAnswer::Refused(refusals::partitions(i));
         }
         total += end - start;
         i += 1;
     }
     TotalAnswer::Total(total)
+}
+
+// What one row must meet; `total` is the sum of the lengths before it.
+fn row_ok(product: u64, total: u64, start: u64, end: u64) -> bool
+    requires { ⌜ total ≤ largestTotal ⌝ }
+    ensures { λ r. ⌜ r ≡ rowOk product total start end ⌝ }
+{
+    if end <= start {
+        return false;
+    }
+    if product <= end {
+        return false;
+    }
+    end - start <= Layout::LARGEST_P - total
 }

@@ -27,7 +27,7 @@ pub fn print_count(layout: Layout, count: u64, buffer: &mut [u8]) -> PrintAnswer
     match measure(layout) {
         MeasureAnswer::Accepted(m) => {
             if m.product <= count {
-                return PrintAnswer::Refused(refusals::TOO_LARGE);
+                return PrintAnswer::Refused(refusals::COUNT_TOO_LARGE);
             }
             count_of(layout, count, buffer)
         }

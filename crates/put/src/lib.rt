@@ -1,5 +1,7 @@
 // Bytes put into a buffer behind one another: each function puts its bytes at `at` as far as there is room, and answers the place after them.
 ghost use Rattle.put.specs.Places.{Put};
+use rules::Place;
+use rules::Refusal;
 
 const NO_BYTES: u8 = b'.';
 // The ordinal of the time 0.
@@ -44,6 +46,22 @@ pub fn time(out: &mut [u8], at: usize, ordinal: u64) -> usize
         return number(out, place, ZERO - ordinal);
     }
     number(out, at, ordinal - ZERO)
+}
+
+// `refused`, the number, and the place where there is one.
+pub fn refusal(out: &mut [u8], at: usize, refused: Refusal) -> usize
+    ensures { λ r. ⌜ Put at (now (out .entry)) r ⌝ }
+{
+    let place = text(out, at, b"refused ");
+    let place = number(out, place, refused.number);
+    let found = refused.place;
+    match found {
+        Place::None => place,
+        Place::At(i) => {
+            let place = byte(out, place, b' ');
+            number(out, place, i as u64)
+        }
+    }
 }
 
 // The 16 hexadecimal digits of a double's bits.

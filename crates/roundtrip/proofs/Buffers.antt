@@ -1,18 +1,19 @@
 -- What the printing calls leave at the front of a lent buffer: the print, which is read as what was printed.
 use Prim.Native.Nat.{ℕ, _≤_, _<_}
-use mathlib.Core.Path.{_≡_}
+use mathlib.Core.Path.{_≡_, ap}
 use mathlib.Core.Bool.{true}
 use mathlib.Core.List.{List}
 use lib.ListN.{length, take}
 use lib.Seq.{take-append-seam}
 use borrow.Author.Tests.{ltb-true, leb-true}
+use Rattle.base.specs.Scans.{isNone}
 use Rattle.rules.specs.Answer.{Answer, answer, refused}
 use Rattle.rules.specs.declared.Layout.{Layout}
 use Rattle.rules.specs.Layout.{productOf, layoutOk}
 use Rattle.rules.specs.Partitions.{Partitions, totalOf, partitionsOk}
 use Rattle.rules.specs.Print.{countPrint, stampPrint, fitting, printCount, printStamp, lengthPrinted, bufferAfter}
 use Rattle.roundtrip.specs.RoundTrip.{CountCallReadsBack, StampCallReadsBack}
-use Rattle.rules.proofs.Answers.{not-answer, unless-test, unless-rest}
+use Rattle.rules.proofs.Answers.{not-answer, unless-test, unless-rest, unless-at-none, unless-at-rest}
 use Rattle.roundtrip.proofs.Counts.{count-reads-back}
 use Rattle.roundtrip.proofs.Stamps.{stamp-reads-back}
 
@@ -54,12 +55,12 @@ stamp-printed : (l : Layout) (p : Partitions) (e room : ℕ) (s : List ℕ) → 
 unfolding printStamp fitting
 stamp-printed l p e room s h =
     let h1 = unless-rest 1 _ _ s h in
-    let h2 = unless-rest 2 _ _ s h1 in
+    let h2 = unless-at-rest 2 _ _ s h1 in
     let h3 = unless-rest 12 _ _ s h2 in
     let h4 = unless-rest 16 _ _ s h3 in
     record {
       accepted = unless-test 1 _ _ s h;
-      partitions = unless-test 2 _ _ s h1;
+      partitions = ap isNone (unless-at-none 2 _ _ s h1);
       within = leb-true e (totalOf p) (unless-test 12 _ _ s h2);
       print = cc;
     }

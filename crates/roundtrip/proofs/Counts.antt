@@ -1,23 +1,23 @@
 -- A printed count is read as itself.
 use Prim.Native.Nat.{ℕ, _≤_, _<_}
-use mathlib.Core.Path.{_≡_}
+use mathlib.Core.Path.{_≡_, refl}
 use mathlib.Core.Bool.{true}
 use mathlib.Core.List.{List, [], _∷_}
-use lib.ListN.{length, length-take}
+use lib.ListN.{length, drop, length-take}
 use borrow.Author.Tests.{le-leb}
 use native.Mathlib.Omega.{arith}
 use Rattle.base.specs.Scans.{product}
 use Rattle.rules.specs.Limits.{mostFields, longestText, largestCount}
-use Rattle.rules.specs.Answer.{answer, unless, reading}
+use Rattle.rules.specs.Answer.{answer, unless, unlessAt, failsAt, reading}
 use Rattle.rules.specs.declared.Layout.{Layout}
 use Rattle.rules.specs.Layout.{moduliOf, offsetsOf, productOf, layoutOk}
 use Rattle.rules.proofs.Accepted.{layout-facts}
-use Rattle.rules.specs.Text.{fieldsCount, bytesCount, parseText, readText}
+use Rattle.rules.specs.Text.{surplusAt, fieldsCount, bytesCount, parseText, readText}
 use Rattle.rules.specs.Print.{fieldsPrint, countPrint}
 use Rattle.roundtrip.specs.Fields.{FieldsFacts}
 use Rattle.roundtrip.specs.RoundTrip.{TenSlots, CountReadsBack, CountPrintsShort, longestCountPrint}
-use Rattle.roundtrip.proofs.Fields.{Separates, delimiter-separates, fields-printed, fields-allowed}
-use Rattle.roundtrip.proofs.Split.{each-printed, sum-printed, length-printed, first-printed}
+use Rattle.roundtrip.proofs.Fields.{Separates, delimiter-separates, none-refused, fields-printed, fields-allowed}
+use Rattle.roundtrip.proofs.Split.{each-printed, sum-printed, first-printed, none-surplus}
 use Rattle.roundtrip.proofs.Length.{fields-short}
 
 -- the fields of an accepted layout
@@ -32,28 +32,29 @@ layout-fields l t ok =
       in-range = f .product;
     }
 
--- what a reader asks of the bytes s that stand for the count c
+-- what a reader asks of the bytes s that stand for the count c, at the end of whatever text
 pub record Readable (ms os s : List ℕ) (c : ℕ) : Type 0 where
   pub short : length s ≤ longestCountPrint
-  pub counted : bytesCount ms os s ≡ answer (reading c)
+  pub counted : (text : List ℕ) (i : ℕ) → drop i text ≡ s → bytesCount ms os text i ≡ answer (reading c)
 
 fields-readable : (d : ℕ) → Separates d → (c : ℕ) (ms os : List ℕ) → 1 ≤ length ms → length ms ≤ mostFields → FieldsFacts ms os → c < product ms
     → Readable ms os (fieldsPrint d c ms os) c
-unfolding bytesCount fieldsCount unless
+unfolding bytesCount fieldsCount surplusAt unless unlessAt failsAt
 fields-readable d w c [] os some few f h = absurd (omega arith)
 fields-readable d w c (m ∷ ms) [] some few f h = absurd (omega (arith, f .one-length))
 fields-readable d w c (m ∷ ms) (o ∷ os) some few f h =
     let same : length ms ≡ length os = omega (arith, f .one-length) in
     record {
       short = omega (arith, fields-short d c m ms o os f h);
-      counted =
+      counted = λ text i end.
           rw (
-            fields-allowed d w c m ms o os same,
-            fields-printed d w c m ms o os same,
-            le-leb _ _ (length-printed c (m ∷ ms) (o ∷ os)),
-            first-printed c m ms o os,
-            each-printed c (m ∷ ms) (o ∷ os) _ f h,
-            sum-printed c (m ∷ ms) (o ∷ os) f h,
+            end,
+            none-refused i _ (fields-allowed d w c m ms o os same),
+            fields-printed d w i c m ms o os same,
+            none-surplus i c (m ∷ ms) (o ∷ os),
+            first-printed i c m ms o os,
+            each-printed i c (m ∷ ms) (o ∷ os) _ f h,
+            sum-printed i c (m ∷ ms) (o ∷ os) f h,
             le-leb c largestCount (omega (arith, f .in-range)),
           );
     }
@@ -73,4 +74,4 @@ pub count-reads-back : CountReadsBack
 unfolding readText parseText unless
 count-reads-back l t ok c h =
     let r = readable l c t ok h in
-    rw (ok, le-leb (length (countPrint l c)) longestText (omega (arith, r .short)), r .counted)
+    rw (ok, le-leb (length (countPrint l c)) longestText (omega (arith, r .short)), r .counted (countPrint l c) 0 refl)

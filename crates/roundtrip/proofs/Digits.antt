@@ -13,7 +13,7 @@ use native.Mathlib.Numerals.{add-one}
 use native.Mathlib.Omega.{arith}
 use Rattle.base.specs.Scans.{all}
 use Rattle.base.proofs.Tests.{by-test, and-both}
-use Rattle.rules.specs.Text.{isDigit, valueFrom, valueOf}
+use Rattle.rules.specs.Text.{Field, isDigit, digitAt, valueFrom, valueOf}
 use Rattle.rules.specs.Print.{digitsUpTo, digitCount, lastDigits, padded}
 use Rattle.base.proofs.Lists.{all-append}
 
@@ -81,31 +81,27 @@ digits-some (suc x) = by-test (ltb (suc x) 10) (λ t. rw (t, digitsUpTo) (omega 
 pub digits-grow : (x y : ℕ) → x ≤ y → digitCount x ≤ digitCount y
 digits-grow x y h = digits-below (digitCount y) x (digits-some y) (omega (arith, digits-enough y))
 
--- the digits that bytes stand for
-unfoldable pub digitsOf : List ℕ → List ℕ
-digitsOf [] = []
-digitsOf (b ∷ s) = (b - 48) ∷ digitsOf s
+-- the digits that bytes stand for, from the place i on
+unfoldable pub digitsFrom : ℕ → List ℕ → Field
+digitsFrom i [] = []
+digitsFrom i (b ∷ s) = digitAt i b ∷ digitsFrom (i + 1) s
 
-digits-append : (s t : List ℕ) → digitsOf (s ++ t) ≡ digitsOf s ++ digitsOf t
-unfolding digitsOf
-digits-append [] t = refl
-digits-append (b ∷ s) t = rw (digits-append s t)
+-- the number that one more digit makes
+value-more : (v i : ℕ) (s : List ℕ) (b : ℕ) → valueFrom v (digitsFrom i (s ++ (b ∷ []))) ≡ valueFrom v (digitsFrom i s) * 10 + (b - 48)
+unfolding digitsFrom valueFrom
+value-more v i [] b = refl
+value-more v i (c ∷ s) b = value-more (v * 10 + (c - 48)) (i + 1) s b
 
-value-append : (v : ℕ) (s t : List ℕ) → valueFrom v (s ++ t) ≡ valueFrom (valueFrom v s) t
-unfolding valueFrom
-value-append v [] t = refl
-value-append v (d ∷ s) t = value-append (v * 10 + d) s t
-
-last-value : (v w x : ℕ) → valueFrom v (digitsOf (lastDigits w x)) ≡ v * 10 ^ w + x % 10 ^ w
-unfolding lastDigits digitsOf valueFrom
-last-value v zero x = omega arith
-last-value v (suc w) x =
+last-value : (v i w x : ℕ) → valueFrom v (digitsFrom i (lastDigits w x)) ≡ v * 10 ^ w + x % 10 ^ w
+unfolding lastDigits digitsFrom valueFrom
+last-value v i zero x = omega arith
+last-value v i (suc w) x =
     let split = mod-mul x {m = 10 ^ w} {c = 10} (one-le-pow w 10 (omega arith)) (omega arith) in
-    rw (digits-append, value-append, last-value v w (x / 10), pow-suc, split) (omega arith)
+    rw (value-more, last-value v i w (x / 10), pow-suc, split) (omega arith)
 
-last-whole : (w x : ℕ) → x < 10 ^ w → valueOf (digitsOf (lastDigits w x)) ≡ x
+last-whole : (i w x : ℕ) → x < 10 ^ w → valueOf (digitsFrom i (lastDigits w x)) ≡ x
 unfolding valueOf
-last-whole w x h = rw (last-value 0 w x, mod-eq-of-lt h) (omega arith)
+last-whole i w x h = rw (last-value 0 i w x, mod-eq-of-lt h) (omega arith)
 
 pub last-length : (w x : ℕ) → length (lastDigits w x) ≡ w
 unfolding lastDigits
@@ -121,11 +117,11 @@ last-digits (suc w) x =
     digit : isDigit (48 + x % 10) ≡ true
     digit = and-both (le-leb 48 (48 + x % 10) (omega arith)) (le-leb (48 + x % 10) 57 (omega arith))
 
--- the bytes s are digits that read as the number x
+-- the bytes s are digits that read as the number x, wherever they stand
 pub record Prints (x : ℕ) (s : List ℕ) : Type 0 where
   pub some : 1 ≤ length s
   pub digits : all isDigit s ≡ true
-  pub value : valueOf (digitsOf s) ≡ x
+  pub value : (i : ℕ) → valueOf (digitsFrom i s) ≡ x
 
 pub padded-length : (w x : ℕ) → length (padded w x) ≡ max w (digitCount x)
 unfolding padded
@@ -138,5 +134,5 @@ padded-prints w x =
     record {
       some = rw last-length (omega (arith, digits-some x));
       digits = last-digits most x;
-      value = last-whole most x (lt-of-lt-of-le (digits-enough x) (pow-le-pow-right (omega arith) (le-max-right w (digitCount x))));
+      value = λ i. last-whole i most x (lt-of-lt-of-le (digits-enough x) (pow-le-pow-right (omega arith) (le-max-right w (digitCount x))));
     }

@@ -3,19 +3,19 @@ use Prim.Native.Nat.{ℕ, _+_, _*_, _/_, _%_, _≤_, _<_}
 use mathlib.Core.Path.{_≡_, refl}
 use mathlib.Core.Bool.{true}
 use mathlib.Core.List.{List, [], _∷_}
-use lib.ListN.{length}
+use lib.ListN.{length, drop}
 use borrow.Author.Tests.{le-leb, leb-true}
 use native.Mathlib.Nat.{add-sub-cancel, mod-lt, div-add-mod', div-lt-iff-lt-mul, mul-le-mul}
 use native.Mathlib.Omega.{arith}
 use Rattle.base.specs.Scans.{product}
 use Rattle.rules.specs.Limits.{largestOffset, largestP, largestField}
 use Rattle.rules.specs.declared.Reading.{Reading}
-use Rattle.rules.specs.Answer.{Answer, unless}
+use Rattle.rules.specs.Answer.{Answer, unlessAt, failsAt}
 use Rattle.rules.specs.Text.{isPresent, firstPresent, ticksOf, sumOf, notAbove, notBelow, eachField}
 use Rattle.rules.specs.Print.{fieldPrint}
 use Rattle.base.proofs.Lists.{all-head, all-tail, product-pos}
 use Rattle.roundtrip.specs.Fields.{FieldsFacts}
-use Rattle.roundtrip.proofs.Digits.{digitsOf, Prints}
+use Rattle.roundtrip.proofs.Digits.{digitsFrom, Prints}
 use Rattle.roundtrip.proofs.Fields.{printedFields, field-prints}
 
 -- what holds of the first field
@@ -49,50 +49,56 @@ pub quotient-below : (c m : ℕ) (ms : List ℕ) → 1 ≤ product ms → c < pr
 unfolding product
 quotient-below c m ms u h = div-lt-iff-lt-mul {k = product ms} {x = c} {y = m} u .1 h
 
-pub present : (x : ℕ) (s : List ℕ) → Prints x s → isPresent (digitsOf s) ≡ true
-unfolding digitsOf
-present x [] p = absurd (omega (arith, p .some))
-present x (b ∷ s) p = refl
+-- a printed number as a field
+module _ (x i : ℕ) (s : List ℕ) (p : Prints x s) where
+  present : isPresent (digitsFrom i s) ≡ true
+  unfolding digitsFrom
+  present = some-digits s (p .some)
+    where
+      some-digits : (s : List ℕ) → 1 ≤ length s → isPresent (digitsFrom i s) ≡ true
+      some-digits [] h = absurd (omega arith)
+      some-digits (b ∷ s) h = refl
 
-not-above : (x : ℕ) (s : List ℕ) → Prints x s → x ≤ largestField → notAbove (digitsOf s) ≡ true
-unfolding notAbove
-not-above x s p h = rw (present x s p, p .value, le-leb x largestField h)
+  not-above : x ≤ largestField → notAbove (digitsFrom i s) ≡ true
+  unfolding notAbove
+  not-above h = rw (present, p .value i, le-leb x largestField h)
 
-not-below : (x : ℕ) (s : List ℕ) (o : ℕ) → Prints x s → o ≤ x → notBelow (digitsOf s) o ≡ true
-unfolding notBelow
-not-below x s o p h = rw (present x s p, p .value, le-leb o x h)
+  not-below : (o : ℕ) → o ≤ x → notBelow (digitsFrom i s) o ≡ true
+  unfolding notBelow
+  not-below o h = rw (present, p .value i, le-leb o x h)
 
-ticks-printed : (v o : ℕ) (s : List ℕ) (unit : ℕ) → Prints (v + o) s → ticksOf (digitsOf s) o unit ≡ v * unit
+ticks-printed : (v o i : ℕ) (s : List ℕ) (unit : ℕ) → Prints (v + o) s → ticksOf (digitsFrom i s) o unit ≡ v * unit
 unfolding ticksOf
-ticks-printed v o s unit p = rw (present (v + o) s p, p .value, add-sub-cancel)
+ticks-printed v o i s unit p = rw (present (v + o) i s p, p .value i, add-sub-cancel)
 
-pub each-printed : (c : ℕ) (ms os : List ℕ) (a : Answer Reading) → FieldsFacts ms os → c < product ms → eachField (printedFields c ms os) os a ≡ a
-unfolding printedFields eachField unless
-each-printed c [] os a f h = refl
-each-printed c (m ∷ ms) [] a f h = refl
-each-printed c (m ∷ ms) (o ∷ os) a f h =
+pub each-printed : (i c : ℕ) (ms os : List ℕ) (a : Answer Reading) → FieldsFacts ms os → c < product ms → eachField (printedFields i c ms os) os a ≡ a
+unfolding printedFields eachField unlessAt failsAt
+each-printed i c [] os a f h = refl
+each-printed i c (m ∷ ms) [] a f h = refl
+each-printed i c (m ∷ ms) (o ∷ os) a f h =
     let g = first-facts m ms o os f in
     let v = c / product ms in
     let p = field-prints v m o in
-    let low = not-above (v + o) _ p (omega (arith, quotient-below c m ms (g .unit) h)) in
-    rw (low, not-below (v + o) _ o p (omega arith), each-printed (c % product ms) ms os a (g .later) (mod-lt c (g .unit)))
+    let low = not-above (v + o) i _ p (omega (arith, quotient-below c m ms (g .unit) h)) in
+    rw (low, not-below (v + o) i _ p o (omega arith), each-printed _ (c % product ms) ms os a (g .later) (mod-lt c (g .unit)))
 
-pub sum-printed : (c : ℕ) (ms os : List ℕ) → FieldsFacts ms os → c < product ms → sumOf (printedFields c ms os) ms os ≡ c
+pub sum-printed : (i c : ℕ) (ms os : List ℕ) → FieldsFacts ms os → c < product ms → sumOf (printedFields i c ms os) ms os ≡ c
 unfolding printedFields sumOf product
-sum-printed c [] os f h = omega arith
-sum-printed c (m ∷ ms) [] f h = absurd (omega (arith, f .one-length))
-sum-printed c (m ∷ ms) (o ∷ os) f h =
+sum-printed i c [] os f h = omega arith
+sum-printed i c (m ∷ ms) [] f h = absurd (omega (arith, f .one-length))
+sum-printed i c (m ∷ ms) (o ∷ os) f h =
     let g = first-facts m ms o os f in
     let v = c / product ms in
-    let first = ticks-printed v o (fieldPrint v m o) (product ms) (field-prints v m o) in
-    rw (first, sum-printed (c % product ms) ms os (g .later) (mod-lt c (g .unit))) (div-add-mod' c (product ms))
+    let first = ticks-printed v o i (fieldPrint v m o) (product ms) (field-prints v m o) in
+    rw (first, sum-printed _ (c % product ms) ms os (g .later) (mod-lt c (g .unit))) (div-add-mod' c (product ms))
 
-pub first-printed : (c m : ℕ) (ms : List ℕ) (o : ℕ) (os : List ℕ) → firstPresent (printedFields c (m ∷ ms) (o ∷ os)) ≡ true
+pub first-printed : (i c m : ℕ) (ms : List ℕ) (o : ℕ) (os : List ℕ) → firstPresent (printedFields i c (m ∷ ms) (o ∷ os)) ≡ true
 unfolding printedFields
-first-printed c m ms o os = present _ _ (field-prints (c / product ms) m o)
+first-printed i c m ms o os = present _ i _ (field-prints (c / product ms) m o)
 
-pub length-printed : (c : ℕ) (ms os : List ℕ) → length (printedFields c ms os) ≤ length ms
+-- no field is surplus
+pub none-surplus : (i c : ℕ) (ms os : List ℕ) → drop (length ms) (printedFields i c ms os) ≡ []
 unfolding printedFields
-length-printed c [] os = omega arith
-length-printed c (m ∷ ms) [] = omega arith
-length-printed c (m ∷ ms) (o ∷ os) = omega (arith, length-printed (c % product ms) ms os)
+none-surplus i c [] os = refl
+none-surplus i c (m ∷ ms) [] = refl
+none-surplus i c (m ∷ ms) (o ∷ os) = none-surplus _ (c % product ms) ms os

@@ -10,17 +10,18 @@ use lib.ListN.{length, getD}
 use borrow.Author.Tests.{le-leb, leb-true, ne-eqb}
 use Rattle.base.specs.Scans.{all}
 use Rattle.base.proofs.Tests.{not-both, and-both, and-first, and-second}
-use Rattle.base.proofs.Scans.{First, first-is, first-none, first-or}
+use Rattle.base.proofs.Scans.{nothing, First, first-is, first-none, first-or}
 use Rattle.rules.specs.Limits.{longestText}
-use Rattle.rules.specs.Answer.{answer, refuse, unless, andThen, reading}
+use Rattle.rules.specs.Answer.{answer, refuse, unless, unlessAt, andThen, reading}
 use Rattle.rules.specs.declared.Layout.{Layout}
 use Rattle.rules.specs.Layout.{layoutOk, moduliOf, offsetsOf, productOf}
-use Rattle.rules.specs.Partitions.{Partitions, partitionsIn, startOf, endOf, partitionsOk}
+use Rattle.rules.specs.Partitions.{Partitions, partitionsIn, startOf, endOf, partitionsFault, partitionsOk}
 use Rattle.rules.specs.Text.{isAllowed, bytesCount, parseText, readText}
 use Rattle.rules.specs.Stamp.{slashIn, holds, encodedIn, encodeFound, encodeFirst, unnamed, parsedAt, parseStamp, encode, readStamp}
 use Rattle.roundtrip.specs.Unnamed.{Holds, FirstToHold, NoneHolds, UnnamedStamp, UnnamedRefused}
 use Rattle.base.proofs.Lists.{all-getD}
-use Rattle.rules.proofs.Answers.{not-answer, unless-test, unless-rest}
+use Rattle.rules.proofs.Answers.{not-answer, unless-test, unless-rest, unless-at-none}
+use Rattle.roundtrip.proofs.Fields.{all-allowed}
 
 module _ (p : Partitions) (c : ℕ) where
   pub encode-first : (i : ℕ) → First (holds p c) (partitionsIn p) i → encode p (unnamed (reading c)) ≡ answer (reading (encodedIn p c i))
@@ -61,22 +62,22 @@ record Passes (l : Layout) (s : List ℕ) (c : ℕ) : Type 0 where
   layout : layoutOk l ≡ true
   short : leb (length s) longestText ≡ true
   allowed : all isAllowed s ≡ true
-  counted : bytesCount (moduliOf l) (offsetsOf l) s ≡ answer (reading c)
+  counted : bytesCount (moduliOf l) (offsetsOf l) s 0 ≡ answer (reading c)
 
 passes : (l : Layout) (s : List ℕ) (c : ℕ) → readText l s ≡ answer (reading c) → Passes l s c
 unfolding readText parseText bytesCount
 passes l s c h =
     let h1 = unless-rest 1 _ _ _ h in
     let h2 = unless-rest 4 _ _ _ h1 in
-    record { layout = unless-test 1 _ _ _ h; short = unless-test 4 _ _ _ h1; allowed = unless-test 5 _ _ _ h2; counted = h2 }
+    record { layout = unless-test 1 _ _ _ h; short = unless-test 4 _ _ _ h1; allowed = all-allowed 0 s (unless-at-none 5 _ _ _ h2); counted = h2 }
 
 -- a text that has a count, read as a stamp
 pub text-as-stamp : (l : Layout) (p : Partitions) (s : List ℕ) (c : ℕ) → partitionsOk (productOf l) p ≡ true → readText l s ≡ answer (reading c)
     → readStamp l p s ≡ encode p (unnamed (reading c))
-unfolding readStamp parseStamp parsedAt unless andThen
+unfolding readStamp parseStamp parsedAt unless unlessAt andThen
 text-as-stamp l p s c ok h =
     let w = passes l s c h in
-    rw (w .layout, ok, w .short, no-slash s (w .allowed), w .counted)
+    rw (w .layout, nothing (partitionsFault (productOf l) p) ok, w .short, no-slash s (w .allowed), w .counted)
 
 pub unnamed-stamp : UnnamedStamp
 unfolding encodedIn

@@ -1,9 +1,11 @@
 -- What a call answers: a value, or a refusal. Each answer type of the code is read as one of these.
 use Prim.Native.Nat.{ℕ}
 use mathlib.Core.Bool.{Bool, true, false}
+use mathlib.Core.Option.{Option, none, some}
 use lib.IntN.{ℤ}
 use lib.Ieee.{Float}
 use Rattle.rules.specs.declared.Refusal.{Refusal}
+use Rattle.rules.specs.declared.Place.the-variants as Places
 use Rattle.rules.specs.declared.Reading.{Reading}
 use Rattle.rules.specs.declared.ReadAnswer.{ReadAnswer}
 use Rattle.rules.specs.declared.ReadAnswer.the-variants as Reads
@@ -27,19 +29,35 @@ pub data Answer (A : Type 0) : Type 0 where
   answer : A → Answer A
   refused : Refusal → Answer A
 
--- "Each returns its number alone."
+-- "Each returns its number alone", which request 3 amends: some give a place as well.
 abbrev pub numbered : ℕ → Refusal
-numbered k = record { number = k }
+numbered k = record { number = k; place = Places.None }
+
+abbrev pub placed : ℕ → ℕ → Refusal
+placed k i = record { number = k; place = Places.At i }
+
+-- A rule that is to hold at the place i: it fails there, or nowhere.
+unfoldable pub failsAt : ℕ → Bool → Option ℕ
+failsAt i true = none
+failsAt i false = some i
 
 module _ {A : Type 0} where
-  -- refused with the number k
+  -- refused with the number k, without a place and at the place i
   abbrev pub refuse : ℕ → Answer A
   refuse k = refused (numbered k)
+
+  abbrev pub refuseAt : ℕ → ℕ → Answer A
+  refuseAt k i = refused (placed k i)
 
   -- "A refusal is given exactly then": what follows where the test holds, and refused k otherwise
   unfoldable pub unless : ℕ → Bool → Answer A → Answer A
   unless k true a = a
   unless k false a = refuse k
+
+  -- The same where a place is given: what follows where nothing fails, and refused k at the place that fails.
+  unfoldable pub unlessAt : ℕ → Option ℕ → Answer A → Answer A
+  unlessAt k none a = a
+  unlessAt k (some i) a = refuseAt k i
 
 -- a refusal is passed on; a value goes to the next step
 unfoldable pub andThen : {A B : Type 0} → Answer A → (A → Answer B) → Answer B

@@ -9,6 +9,8 @@ use lib.IntN.{pos, negsuc}
 use lib.Ieee.{nan, inf}
 use lib.ListN.{length, replicate}
 use Rattle.rules.specs.declared.Layout.{Layout}
+use Rattle.rules.specs.declared.Refusal.{Refusal}
+use Rattle.rules.specs.declared.Place.the-variants as Places
 use Rattle.rules.specs.declared.Reading.{Reading}
 use Rattle.rules.specs.declared.ReadAnswer.the-variants as Reads
 use Rattle.rules.specs.declared.TimeAnswer.the-variants as Times
@@ -22,7 +24,9 @@ use Rattle.rules.specs.Answer.{
   answer,
   refused,
   refuse,
+  refuseAt,
   numbered,
+  placed,
   reading,
   timeOfCount,
   countAtTime,
@@ -37,7 +41,7 @@ use Rattle.rules.specs.Answer.{
 }
 use Rattle.rules.specs.Partitions.{Partitions, partitions}
 use Rattle.rules.specs.Segments.{Segments, segments}
-use Rattle.rules.specs.Text.{readText, fieldsOf}
+use Rattle.rules.specs.Text.{readText, fieldsFrom}
 use Rattle.rules.specs.Message.{textLength, readMessage}
 use Rattle.rules.specs.Print.{countPrint, printCount, printStamp, lengthPrinted, bufferAfter}
 use Rattle.rules.specs.Time.{timeOf, countAt, stepsBackIn}
@@ -57,7 +61,7 @@ noSegments = segments [] [] []
 
 -- the text reader's marks and blanks: the fields of a text, each as its digits
 unfoldable pub digitsIn : String → List (List ℕ)
-digitsIn s = fieldsOf (bytes s)
+digitsIn s = map (map (λ d. d .value)) (fieldsFrom 0 (bytes s))
 
 -- moduli 100, 10 with another offset in the second field, or another delimiter
 unfoldable pub tens : ℕ → ℕ → Layout
@@ -135,7 +139,7 @@ pub reading-edges :
     (readText (oneField (10 ^ 15) 1_000) (bytes "1000000000001000") ∷ readText (oneField (10 ^ 15) 1_000) (bytes "1000000000001001") ∷ readText (tens 1 1) (bytes "1000000000001000.0") ∷ readText (tens 1 1) (bytes "1000000000001001.0") ∷ readText layoutA (bytes "100000000000000.0")
     ∷ readText layoutA (bytes "100000000000000.1") ∷ readText (tens 1 1) (bytes "12.") ∷ readText (tens 1 1) (bytes "12.0") ∷ readText (tens 1 1) (bytes "12.1")
     ∷ readText layoutA (replicate 96 48) ∷ readText layoutA (replicate 97 48) ∷ readText layoutA (replicate 96 120) ∷ readText layoutA (replicate 97 120) ∷ [])
-    ≡ (answer (reading (10 ^ 15)) ∷ refuse 9 ∷ refuse 8 ∷ refuse 9 ∷ answer (reading (10 ^ 15)) ∷ refuse 9 ∷ answer (reading 120) ∷ refuse 8 ∷ answer (reading 120) ∷ answer (reading 0) ∷ refuse 4 ∷ refuse 5 ∷ refuse 4 ∷ [])
+    ≡ (answer (reading (10 ^ 15)) ∷ refuseAt 9 0 ∷ refuseAt 8 17 ∷ refuseAt 9 0 ∷ answer (reading (10 ^ 15)) ∷ refuseAt 9 17 ∷ answer (reading 120) ∷ refuseAt 8 3 ∷ answer (reading 120) ∷ answer (reading 0) ∷ refuse 4 ∷ refuseAt 5 0 ∷ refuse 4 ∷ [])
 unfolding computing bytes layoutA tens oneField
 reading-edges = refl
 
@@ -144,7 +148,7 @@ pub message-edges :
     map (readMessage layoutA partitionsA)
     (message 1 0 ∷ message 1 1 ∷ message 1 2 ∷ message 96 96 ∷ message 97 97 ∷ message 0 0 ∷ (1 ∷ []) ∷ (replicate 97 48 ++ (1 ∷ 0 ∷ [])) ∷ (replicate 300 48 ++ (1 ∷ 0 ∷ []))
     ∷ (bytes "1/5.3" ++ (1 ∷ 5 ∷ [])) ∷ [])
-    ≡ (refuse 17 ∷ answer (reading 0) ∷ refuse 17 ∷ answer (reading 0) ∷ refuse 17 ∷ refuse 17 ∷ refuse 17 ∷ refuse 17 ∷ refuse 17 ∷ refuse 17 ∷ [])
+    ≡ (refuse 22 ∷ answer (reading 0) ∷ refuse 23 ∷ answer (reading 0) ∷ refuse 23 ∷ refuse 22 ∷ refuse 21 ∷ refuse 23 ∷ refuse 23 ∷ refuse 23 ∷ [])
 unfolding computing bytes layoutA partitionsA message
 message-edges = refl
 
@@ -194,7 +198,7 @@ tenth-partition = (refl, refl)
 pub print-orders :
     ((printCount noLayout 1_000 0 ∷ printCount layoutA 1_000 0 ∷ printCount layoutA 999 0 ∷ []) ≡ (refuse 1 ∷ refuse 9 ∷ refuse 16 ∷ []))
     × ((printStamp noLayout noPartitions 1_201 0 ∷ printStamp layoutA noPartitions 1_201 0 ∷ printStamp layoutA partitionsA 1_201 0 ∷ printStamp layoutA partitionsA 1_200 0 ∷ [])
-    ≡ (refuse 1 ∷ refuse 2 ∷ refuse 12 ∷ refuse 16 ∷ []))
+    ≡ (refuse 1 ∷ refuseAt 2 0 ∷ refuse 12 ∷ refuse 16 ∷ []))
 unfolding computing layoutA partitionsA noLayout noPartitions
 print-orders = (refl, refl)
 
@@ -240,11 +244,11 @@ count-edges = refl
 -- 12 and 14 come after 1, 2 and 3, and these in this order
 pub time-orders :
     ((timeOf noLayout noPartitions noSegments 1_201 ∷ timeOf layoutA noPartitions noSegments 1_201 ∷ timeOf layoutA partitionsA noSegments 1_201 ∷ timeOf layoutA partitionsA segmentsA 1_201 ∷ [])
-    ≡ (refuse 1 ∷ refuse 2 ∷ refuse 3 ∷ refuse 12 ∷ []))
+    ≡ (refuse 1 ∷ refuseAt 2 0 ∷ refuseAt 3 0 ∷ refuse 12 ∷ []))
     × ((countAt noLayout noPartitions noSegments (pos (4 * 10 ^ 18 + 1)) ∷ countAt layoutA noPartitions noSegments (pos (4 * 10 ^ 18 + 1)) ∷ countAt layoutA partitionsA noSegments (pos (4 * 10 ^ 18 + 1))
     ∷ countAt layoutA partitionsA segmentsA (pos (4 * 10 ^ 18 + 1)) ∷ [])
-    ≡ (refuse 1 ∷ refuse 2 ∷ refuse 3 ∷ refuse 14 ∷ []))
-    × ((stepsBackIn noLayout noPartitions noSegments ∷ stepsBackIn layoutA noPartitions noSegments ∷ stepsBackIn layoutA partitionsA noSegments ∷ []) ≡ (refuse 1 ∷ refuse 2 ∷ refuse 3 ∷ []))
+    ≡ (refuse 1 ∷ refuseAt 2 0 ∷ refuseAt 3 0 ∷ refuse 14 ∷ []))
+    × ((stepsBackIn noLayout noPartitions noSegments ∷ stepsBackIn layoutA noPartitions noSegments ∷ stepsBackIn layoutA partitionsA noSegments ∷ []) ≡ (refuse 1 ∷ refuseAt 2 0 ∷ refuseAt 3 0 ∷ []))
 unfolding computing layoutA partitionsA segmentsA noLayout noPartitions noSegments
 time-orders = (refl, refl, refl)
 
@@ -255,8 +259,8 @@ pub stamp-time-edges :
     ∷ timeOfStamp layoutA partitionsA (segments (1 ∷ []) (pos 0 ∷ []) (10_000 ∷ [])) (bytes "1/0.0")
     ∷ timeOfMessage layoutA partitionsA segmentsA (7 ∷ 208 ∷ bytes "1/5.3" ++ (0 ∷ 5 ∷ [])) ∷ timeOfMessage layoutA partitionsA noSegments (7 ∷ 208 ∷ bytes "1/5.3" ++ (0 ∷ 8 ∷ []))
     ∷ timeOfMessage layoutA partitionsA noSegments (7 ∷ 208 ∷ bytes "1/5.3" ++ (0 ∷ 5 ∷ [])) ∷ [])
-    ≡ (answer (timedStamp 1 (negsuc 996)) ∷ answer (timedStamp 801 (pos 1_603)) ∷ refuse 11 ∷ refuse 11 ∷ refuse 3 ∷ refuse 13
-    ∷ answer (timedStamp 53 (negsuc 866)) ∷ refuse 17 ∷ refuse 3 ∷ [])
+    ≡ (answer (timedStamp 1 (negsuc 996)) ∷ answer (timedStamp 801 (pos 1_603)) ∷ refuse 11 ∷ refuse 11 ∷ refuseAt 3 0 ∷ refuse 13
+    ∷ answer (timedStamp 53 (negsuc 866)) ∷ refuse 23 ∷ refuseAt 3 0 ∷ [])
 unfolding computing bytes layoutA partitionsA segmentsA noSegments
 stamp-time-edges = refl
 
@@ -267,17 +271,21 @@ pub numbers-mean :
     × ((timeOfCount (pos 5) .time ∷ timeOfCount (negsuc 6) .time ∷ timedStamp 5 (pos 7) .time ∷ timedStamp 6 (negsuc 8) .time ∷ []) ≡ (pos 5 ∷ negsuc 6 ∷ pos 7 ∷ negsuc 8 ∷ []))
 numbers-mean = (refl, refl)
 
--- What each case of the code's answers means: its own value, or the refusal of its own number, whichever that is.
+-- a place, or none
+pub places-mean : (map (λ (r : Refusal). r .place) (numbered 5 ∷ placed 5 0 ∷ placed 5 3 ∷ []) ≡ (Places.None ∷ Places.At 0 ∷ Places.At 3 ∷ [])) × ((placed 5 3 .number ∷ placed 2 0 .number ∷ []) ≡ (5 ∷ 2 ∷ []))
+places-mean = (refl, refl)
+
+-- What each case of the code's answers means: its own value, or the refusal of its own number and place, whichever that is.
 pub answers-mean :
-    (map readAnswer (Reads.Read (reading 5) ∷ Reads.Read (reading 6) ∷ Reads.Refused (numbered 4) ∷ Reads.Refused (numbered 12) ∷ [])
-    ≡ (answer (reading 5) ∷ answer (reading 6) ∷ refuse 4 ∷ refuse 12 ∷ []))
-    × (map timeAnswer (Times.Time (timeOfCount (pos 5)) ∷ Times.Time (timeOfCount (negsuc 6)) ∷ Times.Refused (numbered 4) ∷ Times.Refused (numbered 12) ∷ [])
-    ≡ (answer (timeOfCount (pos 5)) ∷ answer (timeOfCount (negsuc 6)) ∷ refuse 4 ∷ refuse 12 ∷ []))
-    × (map countAnswer (Counts.Count (countAtTime 5) ∷ Counts.Count (countAtTime 6) ∷ Counts.Refused (numbered 13) ∷ Counts.Refused (numbered 14) ∷ [])
-    ≡ (answer (countAtTime 5) ∷ answer (countAtTime 6) ∷ refuse 13 ∷ refuse 14 ∷ []))
-    × (map stampAnswer (Stamps.Stamp (timedStamp 5 (pos 7)) ∷ Stamps.Stamp (timedStamp 6 (negsuc 8)) ∷ Stamps.Refused (numbered 3) ∷ Stamps.Refused (numbered 11) ∷ [])
-    ≡ (answer (timedStamp 5 (pos 7)) ∷ answer (timedStamp 6 (negsuc 8)) ∷ refuse 3 ∷ refuse 11 ∷ []))
-    × (map printAnswer (Prints.Length 5 ∷ Prints.Length 6 ∷ Prints.Refused (numbered 12) ∷ Prints.Refused (numbered 16) ∷ []) ≡ (answer 5 ∷ answer 6 ∷ refuse 12 ∷ refuse 16 ∷ []))
-    × (map stepsBackAnswer (Steps.Yes ∷ Steps.No ∷ Steps.Refused (numbered 2) ∷ Steps.Refused (numbered 3) ∷ []) ≡ (answer true ∷ answer false ∷ refuse 2 ∷ refuse 3 ∷ []))
-    × (map doubleAnswer (Doubles.Double nan ∷ Doubles.Double (inf true) ∷ Doubles.Refused (numbered 14) ∷ Doubles.Refused (numbered 15) ∷ []) ≡ (answer nan ∷ answer (inf true) ∷ refuse 14 ∷ refuse 15 ∷ []))
+    (map readAnswer (Reads.Read (reading 5) ∷ Reads.Read (reading 6) ∷ Reads.Refused (numbered 4) ∷ Reads.Refused (placed 12 2) ∷ [])
+    ≡ (answer (reading 5) ∷ answer (reading 6) ∷ refuse 4 ∷ refuseAt 12 2 ∷ []))
+    × (map timeAnswer (Times.Time (timeOfCount (pos 5)) ∷ Times.Time (timeOfCount (negsuc 6)) ∷ Times.Refused (numbered 4) ∷ Times.Refused (placed 12 2) ∷ [])
+    ≡ (answer (timeOfCount (pos 5)) ∷ answer (timeOfCount (negsuc 6)) ∷ refuse 4 ∷ refuseAt 12 2 ∷ []))
+    × (map countAnswer (Counts.Count (countAtTime 5) ∷ Counts.Count (countAtTime 6) ∷ Counts.Refused (numbered 13) ∷ Counts.Refused (placed 14 2) ∷ [])
+    ≡ (answer (countAtTime 5) ∷ answer (countAtTime 6) ∷ refuse 13 ∷ refuseAt 14 2 ∷ []))
+    × (map stampAnswer (Stamps.Stamp (timedStamp 5 (pos 7)) ∷ Stamps.Stamp (timedStamp 6 (negsuc 8)) ∷ Stamps.Refused (numbered 3) ∷ Stamps.Refused (placed 11 2) ∷ [])
+    ≡ (answer (timedStamp 5 (pos 7)) ∷ answer (timedStamp 6 (negsuc 8)) ∷ refuse 3 ∷ refuseAt 11 2 ∷ []))
+    × (map printAnswer (Prints.Length 5 ∷ Prints.Length 6 ∷ Prints.Refused (numbered 12) ∷ Prints.Refused (placed 16 2) ∷ []) ≡ (answer 5 ∷ answer 6 ∷ refuse 12 ∷ refuseAt 16 2 ∷ []))
+    × (map stepsBackAnswer (Steps.Yes ∷ Steps.No ∷ Steps.Refused (numbered 2) ∷ Steps.Refused (placed 3 2) ∷ []) ≡ (answer true ∷ answer false ∷ refuse 2 ∷ refuseAt 3 2 ∷ []))
+    × (map doubleAnswer (Doubles.Double nan ∷ Doubles.Double (inf true) ∷ Doubles.Refused (numbered 14) ∷ Doubles.Refused (placed 15 2) ∷ []) ≡ (answer nan ∷ answer (inf true) ∷ refuse 14 ∷ refuseAt 15 2 ∷ []))
 answers-mean = (refl, refl, refl, refl, refl, refl, refl)

@@ -1,12 +1,14 @@
 -- One name for the definitions of every call but the double form: `unfolding computing` lets a table of cases compute.
-use Rattle.base.specs.Scans.{allOf, allBelow, someBelow, all, product, firstBelow, lastBelow, orElse, sumBelow}
+use Rattle.base.specs.Scans.{allOf, allBelow, someBelow, all, product, firstBelow, firstNot, lastBelow, orElse, sumBelow}
 use Rattle.base.specs.Rounding.{roundUp, roundDown}
 use Rattle.base.specs.Signed.{later, elapsed}
-use Rattle.rules.specs.Answer.{unless, andThen}
+use Rattle.rules.specs.Answer.{unless, unlessAt, failsAt, andThen}
 use Rattle.rules.specs.Layout.{layoutOk, productOf, msfOf, unitOf}
-use Rattle.rules.specs.Partitions.{partitionsOk, partitionOk, totalOf, lengthsBefore}
+use Rattle.rules.specs.Partitions.{partitionsFault, partitionLengthsOk, partitionOk, totalOf, lengthsBefore}
 use Rattle.rules.specs.Segments.{
-  segmentsOk,
+  segmentsFault,
+  segmentLengthsOk,
+  withinTotal,
   segmentOkAt,
   segmentOk,
   rowOk,
@@ -25,7 +27,9 @@ use Rattle.rules.specs.Text.{
   parseText,
   bytesCount,
   fieldsCount,
-  fieldsOf,
+  surplusAt,
+  notAllowedFrom,
+  fieldsFrom,
   between,
   withDigit,
   symbolsFrom,
@@ -46,7 +50,8 @@ use Rattle.rules.specs.Stamp.{
   parseStamp,
   parsedAt,
   slashIn,
-  frontOk,
+  frontFaultFrom,
+  standsInFront,
   frontNumber,
   holds,
   encodedIn,
@@ -55,7 +60,7 @@ use Rattle.rules.specs.Stamp.{
   encodeFound,
   encodeFirst,
 }
-use Rattle.rules.specs.Message.{readMessage, messageOk, textLength, textIn}
+use Rattle.rules.specs.Message.{readMessage, acceptedMessage, textLength, textIn}
 use Rattle.rules.specs.Print.{
   printCount,
   printStamp,
@@ -94,19 +99,19 @@ use Rattle.rules.specs.Time.{
 use Rattle.rules.specs.StampTime.{withTime, timeOfStamp, timeOfMessage}
 
 unfoldable pub scan-rules : Type 0
-unfolding allOf allBelow someBelow all product firstBelow lastBelow orElse sumBelow roundUp roundDown later elapsed unless andThen
+unfolding allOf allBelow someBelow all product firstBelow firstNot lastBelow orElse sumBelow roundUp roundDown later elapsed unless unlessAt failsAt andThen
 scan-rules = Unit {0}
 
 unfoldable pub table-rules : Type 0
-unfolding layoutOk productOf msfOf unitOf partitionsOk partitionOk totalOf lengthsBefore segmentsOk segmentOkAt segmentOk rowOk rowBefore follows lineOk lineAt segmentEnd accepted
+unfolding layoutOk productOf msfOf unitOf partitionsFault partitionLengthsOk partitionOk totalOf lengthsBefore segmentsFault segmentLengthsOk withinTotal segmentOkAt segmentOk rowOk rowBefore follows lineOk lineAt segmentEnd accepted
 table-rules = Unit {0}
 
 unfoldable pub text-rules : Type 0
-unfolding readText parseText bytesCount fieldsCount fieldsOf between withDigit symbolsFrom symbolsAt digitAfter after afterBlank eachField notAbove notBelow sumOf ticksOf valueOf valueFrom
+unfolding readText parseText bytesCount fieldsCount surplusAt notAllowedFrom fieldsFrom between withDigit symbolsFrom symbolsAt digitAfter after afterBlank eachField notAbove notBelow sumOf ticksOf valueOf valueFrom
 text-rules = Unit {0}
 
 unfoldable pub stamp-rules : Type 0
-unfolding readStamp parseStamp parsedAt slashIn frontOk frontNumber holds encodedIn encode encodeNamed encodeFound encodeFirst readMessage messageOk textLength textIn
+unfolding readStamp parseStamp parsedAt slashIn frontFaultFrom standsInFront frontNumber holds encodedIn encode encodeNamed encodeFound encodeFirst readMessage acceptedMessage textLength textIn
 stamp-rules = Unit {0}
 
 unfoldable pub print-rules : Type 0

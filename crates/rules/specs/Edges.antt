@@ -1,4 +1,4 @@
--- Each limit of the three tables, accepted at the limit and refused one beyond, as one table with one statement.
+-- Each limit of the three tables, accepted at the limit and refused one beyond, with the row, as one table with one statement.
 -- The question is whether a table steps back: `answer` means accepted. The limits on rows are in proofs/Rows.antt, for every number of rows.
 use Prim.Native.Nat.{ℕ, zero, suc, _+_, _-_, _*_, _^_}
 use mathlib.Core.Path.{_≡_, refl}
@@ -8,7 +8,7 @@ use lib.IntN.{ℤ, pos, negsuc}
 use lib.ListN.{replicate, length, take}
 use Rattle.base.specs.Scans.{sumBelow}
 use Rattle.rules.specs.declared.Layout.{Layout}
-use Rattle.rules.specs.Answer.{Answer, answer, refuse}
+use Rattle.rules.specs.Answer.{Answer, answer, refuse, refuseAt}
 use Rattle.rules.specs.Partitions.{Partitions, partitions, totalOf, lengthsBefore}
 use Rattle.rules.specs.Segments.{Segments, segments}
 use Rattle.rules.specs.Time.{stepsBackIn}
@@ -127,48 +127,48 @@ edges =
     ∷ layoutEdge (delimiter 5) grows
     ∷ layoutEdge (delimiter 6) (refuse 1)
     -- no partition, lists of one length, a start at its end, an end at P, the total
-    ∷ spanEdge (partitions [] []) (refuse 2)
-    ∷ spanEdge (partitions (0 ∷ 0 ∷ []) (1 ∷ [])) (refuse 2)
-    ∷ spanEdge (partitions (0 ∷ []) (1 ∷ 1 ∷ [])) (refuse 2)
+    ∷ spanEdge (partitions [] []) (refuseAt 2 0)
+    ∷ spanEdge (partitions (0 ∷ 0 ∷ []) (1 ∷ [])) (refuseAt 2 1)
+    ∷ spanEdge (partitions (0 ∷ []) (1 ∷ 1 ∷ [])) (refuseAt 2 1)
     ∷ spanEdge (partitions (5 ∷ []) (6 ∷ [])) grows
-    ∷ spanEdge (partitions (5 ∷ []) (5 ∷ [])) (refuse 2)
-    ∷ spanEdge (partitions (6 ∷ []) (5 ∷ [])) (refuse 2)
-    ∷ spanEdge (partitions (0 ∷ 5 ∷ []) (1 ∷ 5 ∷ [])) (refuse 2)
+    ∷ spanEdge (partitions (5 ∷ []) (5 ∷ [])) (refuseAt 2 0)
+    ∷ spanEdge (partitions (6 ∷ []) (5 ∷ [])) (refuseAt 2 0)
+    ∷ spanEdge (partitions (0 ∷ 5 ∷ []) (1 ∷ 5 ∷ [])) (refuseAt 2 1)
     ∷ spanEdge (upTo 999) grows
-    ∷ spanEdge (upTo 1_000) (refuse 2)
+    ∷ spanEdge (upTo 1_000) (refuseAt 2 0)
     ∷ edge (moduli ((10 ^ 15) ∷ [])) (partitions (0 ∷ 0 ∷ []) ((10 ^ 15 - 1) ∷ 1 ∷ [])) (oneSegment (pos 0) 1_000) grows
-    ∷ edge (moduli ((10 ^ 15) ∷ [])) (partitions (0 ∷ 0 ∷ []) ((10 ^ 15 - 1) ∷ 2 ∷ [])) (oneSegment (pos 0) 1_000) (refuse 2)
+    ∷ edge (moduli ((10 ^ 15) ∷ [])) (partitions (0 ∷ 0 ∷ []) ((10 ^ 15 - 1) ∷ 2 ∷ [])) (oneSegment (pos 0) 1_000) (refuseAt 2 1)
     -- no segment, lists of one length
-    ∷ rowEdge (segments [] [] []) (refuse 3)
-    ∷ rowEdge (segments (0 ∷ []) [] (10_000 ∷ [])) (refuse 3)
-    ∷ rowEdge (segments (0 ∷ []) (pos 0 ∷ []) []) (refuse 3)
-    ∷ rowEdge (segments (0 ∷ []) (pos 0 ∷ pos 1 ∷ []) (10_000 ∷ [])) (refuse 3)
-    ∷ rowEdge (segments (0 ∷ []) (pos 0 ∷ []) (10_000 ∷ 10_000 ∷ [])) (refuse 3)
+    ∷ rowEdge (segments [] [] []) (refuseAt 3 0)
+    ∷ rowEdge (segments (0 ∷ []) [] (10_000 ∷ [])) (refuseAt 3 0)
+    ∷ rowEdge (segments (0 ∷ []) (pos 0 ∷ []) []) (refuseAt 3 0)
+    ∷ rowEdge (segments (0 ∷ []) (pos 0 ∷ pos 1 ∷ []) (10_000 ∷ [])) (refuseAt 3 1)
+    ∷ rowEdge (segments (0 ∷ []) (pos 0 ∷ []) (10_000 ∷ 10_000 ∷ [])) (refuseAt 3 1)
     -- counts and times grow strictly; a segment may begin at the total
-    ∷ rowEdge (secondAt 0 (pos 1_000)) (refuse 3)
+    ∷ rowEdge (secondAt 0 (pos 1_000)) (refuseAt 3 1)
     ∷ rowEdge (secondAt 1 (pos 1_000)) grows
-    ∷ rowEdge (secondAt 1 (negsuc 999)) (refuse 3)
+    ∷ rowEdge (secondAt 1 (negsuc 999)) (refuseAt 3 1)
     ∷ rowEdge (secondAt 1 (negsuc 998)) stepsBackward
     ∷ rowEdge (secondAt 1_200 (pos 5_000)) grows
-    ∷ rowEdge (secondAt 1_201 (pos 5_000)) (refuse 3)
+    ∷ rowEdge (secondAt 1_201 (pos 5_000)) (refuseAt 3 1)
     -- the rate: 1,000×MSF is 10,000
-    ∷ rowEdge (oneSegment (pos 0) 9_999) (refuse 3)
+    ∷ rowEdge (oneSegment (pos 0) 9_999) (refuseAt 3 0)
     ∷ rowEdge (oneSegment (pos 0) 10_000) grows
     ∷ rowEdge (oneSegment (pos 0) (10 ^ 15)) grows
-    ∷ rowEdge (oneSegment (pos 0) (10 ^ 15 + 1)) (refuse 3)
+    ∷ rowEdge (oneSegment (pos 0) (10 ^ 15 + 1)) (refuseAt 3 0)
     -- times at ±4×10^18; a line that reaches it, and one more; a line rounded up reaches one more
     ∷ rowEdge (oneSegment (negsuc (4 * 10 ^ 18 - 1)) 10_000) grows
-    ∷ rowEdge (oneSegment (negsuc (4 * 10 ^ 18)) 10_000) (refuse 3)
+    ∷ rowEdge (oneSegment (negsuc (4 * 10 ^ 18)) 10_000) (refuseAt 3 0)
     ∷ rowEdge (secondAt 1_200 (pos (4 * 10 ^ 18))) grows
-    ∷ rowEdge (secondAt 1_200 (pos (4 * 10 ^ 18 + 1))) (refuse 3)
+    ∷ rowEdge (secondAt 1_200 (pos (4 * 10 ^ 18 + 1))) (refuseAt 3 1)
     ∷ rowEdge (oneSegment (pos (4 * 10 ^ 18 - 1_200)) 10_000) grows
-    ∷ rowEdge (oneSegment (pos (4 * 10 ^ 18 - 1_200)) 10_001) (refuse 3)
-    ∷ rowEdge (oneSegment (pos (4 * 10 ^ 18 - 1_199)) 10_000) (refuse 3)
+    ∷ rowEdge (oneSegment (pos (4 * 10 ^ 18 - 1_200)) 10_001) (refuseAt 3 0)
+    ∷ rowEdge (oneSegment (pos (4 * 10 ^ 18 - 1_199)) 10_000) (refuseAt 3 0)
     -- the same of a line that ends at a next segment's count
     ∷ rowEdge (endingLate (4 * 10 ^ 18 - 3_000)) grows
-    ∷ rowEdge (endingLate (4 * 10 ^ 18 - 2_999)) (refuse 3)
+    ∷ rowEdge (endingLate (4 * 10 ^ 18 - 2_999)) (refuseAt 3 0)
     -- a quotient of some 10^30, before any bound is known
-    ∷ rowEdge (segments (0 ∷ (2 ^ 64 - 1) ∷ []) (pos 0 ∷ pos 1 ∷ []) ((10 ^ 15) ∷ (10 ^ 15) ∷ [])) (refuse 3)
+    ∷ rowEdge (segments (0 ∷ (2 ^ 64 - 1) ∷ []) (pos 0 ∷ pos 1 ∷ []) ((10 ^ 15) ∷ (10 ^ 15) ∷ [])) (refuseAt 3 0)
     ∷ []
 
 pub total-A : totalOf partitionsA ≡ 1_200

@@ -9,7 +9,7 @@ use Rattle.rules.specs.declared.Layout.{Layout}
 use Rattle.rules.specs.declared.Reading.{Reading}
 use Rattle.rules.specs.declared.TimeOfCount.{TimeOfCount}
 use Rattle.rules.specs.declared.CountAtTime.{CountAtTime}
-use Rattle.rules.specs.Answer.{Answer, answer, refuse, reading, timeOfCount, countAtTime}
+use Rattle.rules.specs.Answer.{Answer, answer, refuse, refuseAt, reading, timeOfCount, countAtTime}
 use Rattle.rules.specs.Partitions.{Partitions, partitions}
 use Rattle.rules.specs.Segments.{Segments, segments}
 use Rattle.rules.specs.Text.{readText}
@@ -82,7 +82,7 @@ starred =
     case (text layoutA "12.3") (read (answer (reading 123)))
     ∷ case (text layoutA "5.13") (read (answer (reading 63)))
     ∷ case (text layoutA ".5") (read (refuse 6))
-    ∷ case (text layoutA "12..") (read (refuse 7))
+    ∷ case (text layoutA "12..") (read (refuseAt 7 4))
     ∷ case (stamp "1/50.0") (read (answer (reading 500)))
     ∷ case (stamp "1/50.1") (read (refuse 11))
     ∷ case (stamp "50.1") (read (answer (reading 801)))

@@ -1,14 +1,14 @@
 -- "Three lists of one length": count, time in nanoseconds, rate in picoseconds per first-field count.
 -- Of the layout a segment list is checked by the unit 1,000×MSF alone, of the partitions by the total.
-use Prim.Native.Nat.{ℕ, zero, suc, _+_, _-_, _*_}
-use mathlib.Core.Bool.{Bool, true, _&&_, cond}
+use Prim.Native.Nat.{ℕ, zero, suc, _+_, _-_, _*_, min}
+use mathlib.Core.Bool.{Bool, true, _&&_, _||_, cond}
 use mathlib.Core.List.{List, [], _∷_}
 use mathlib.Core.Option.{Option, none, some}
 use lib.IntN.{ℤ, pos}
 use lib.Signed.{leZ, ltZ}
 use lib.Dec.{leb, ltb, eqb}
 use lib.ListN.{length, getD}
-use Rattle.base.specs.Scans.{allOf, allBelow, someBelow}
+use Rattle.base.specs.Scans.{allOf, firstNot, isNone, someBelow}
 use Rattle.base.specs.Rounding.{roundUp}
 use Rattle.base.specs.Signed.{later}
 use Rattle.rules.specs.Limits.{mostSegments, earliestTime, latestTime, largestRate}
@@ -65,20 +65,35 @@ unfoldable pub rowBefore : Segments → ℕ → Option Segment
 rowBefore g zero = none
 rowBefore g (suc i) = some (rowOf g i)
 
-unfoldable pub segmentOkAt : ℕ → ℕ → Segments → ℕ → Bool
-segmentOkAt unit total g i = segmentOk unit (rowBefore g i) (rowOf g i) (segmentEnd total (g .counts) i)
+-- "the last [count] is at most the total"; "for a count above the total the last" row
+unfoldable pub withinTotal : ℕ → List ℕ → ℕ → Bool
+withinTotal total counts i = hasNext counts i || leb (getD counts i 0) total
 
--- "of one length, 1 to 10,000 .. the last [count] is at most the total"
-unfoldable pub segmentsOk : ℕ → ℕ → Segments → Bool
-segmentsOk unit total g =
+-- What row i must meet: "between two rows the later one", "for a line its own row".
+unfoldable pub segmentOkAt : ℕ → ℕ → Segments → ℕ → Bool
+segmentOkAt unit total g i =
+    segmentOk unit (rowBefore g i) (rowOf g i) (segmentEnd total (g .counts) i) && withinTotal total (g .counts) i
+
+-- "of one length, 1 to 10,000"
+unfoldable pub segmentLengthsOk : Segments → Bool
+segmentLengthsOk g =
     allOf
     (eqb (length (g .times)) (segmentsIn g)
     ∷ eqb (length (g .rates)) (segmentsIn g)
     ∷ leb 1 (segmentsIn g)
     ∷ leb (segmentsIn g) mostSegments
-    ∷ leb (rowOf g (segmentsIn g - 1) .count) total
-    ∷ allBelow (segmentOkAt unit total g) (segmentsIn g)
     ∷ [])
+
+-- Where 3 is found. "Wrong list lengths come first and give the shortest length"; then "the first row, from 0, that breaks a rule".
+unfoldable pub segmentsFault : ℕ → ℕ → Segments → Option ℕ
+segmentsFault unit total g =
+    cond (segmentLengthsOk g)
+    (firstNot (segmentOkAt unit total g) (segmentsIn g))
+    (some (min (segmentsIn g) (min (length (g .times)) (length (g .rates)))))
+
+-- accepted: no fault
+abbrev pub segmentsOk : ℕ → ℕ → Segments → Bool
+segmentsOk unit total g = isNone (segmentsFault unit total g)
 
 -- a line, rounded up, at the next segment's count is later than the next segment's time; equal is no step back
 unfoldable pub overtakes : ℕ → Segment → Segment → Bool

@@ -1,33 +1,44 @@
 -- "A stamp may have a partition in front, before the first `/`" (the paper's term: the front part).
 use Prim.Native.Nat.{ℕ, _+_, _-_}
-use mathlib.Core.Bool.{Bool, false, _&&_}
+use mathlib.Core.Bool.{Bool, true, false, _&&_, _||_, cond}
 use mathlib.Core.List.{List, [], _∷_}
 use mathlib.Core.Option.{Option, none, some}
 use lib.Dec.{leb, eqb}
-use lib.ListN.{length, getD, take, drop}
-use Rattle.base.specs.Scans.{all, firstBelow}
+use lib.ListN.{length, getD, take}
+use Rattle.base.specs.Scans.{firstBelow}
 use Rattle.rules.specs.Limits.{longestText}
 use Rattle.rules.specs.declared.Layout.{Layout}
 use Rattle.rules.specs.declared.Reading.{Reading}
 use Rattle.rules.specs.Layout.{moduliOf, offsetsOf}
 use Rattle.rules.specs.Partitions.{Partitions, partitionsIn, startOf, endOf, lengthsBefore}
 use Rattle.rules.specs.Accepted.{acceptedStamps}
-use Rattle.rules.specs.Answer.{Answer, answer, refuse, unless, andThen, reading}
-use Rattle.rules.specs.Text.{Field, isAllowed, isPresent, valueOf, fieldsOf, bytesCount}
+use Rattle.rules.specs.Answer.{Answer, answer, refuse, unless, unlessAt, failsAt, andThen, reading}
+use Rattle.rules.specs.Text.{Field, Before, edge, number, gap, isDigit, isBlank, after, valueOf, fieldsFrom, bytesCount}
 
 -- where the first `/` stands
 unfoldable pub slashIn : List ℕ → Option ℕ
 slashIn s = firstBelow (λ i. eqb (getD s i 0) 47) (length s)
 
--- exactly one field, and digits in it
-abbrev pub onePresent : List Field → Bool
-onePresent [] = false
-onePresent (f ∷ []) = isPresent f
-onePresent (f ∷ g ∷ fs) = false
+-- Whether the byte b can stand in a front part, "blanks, digits, blanks", after what stands before it: a digit after a gap is a second number.
+unfoldable pub standsInFront : Before → ℕ → Bool
+standsInFront edge b = isBlank b || isDigit b
+standsInFront number b = isBlank b || isDigit b
+standsInFront gap b = isBlank b
 
--- "blanks, digits, blanks"
-unfoldable pub frontOk : List ℕ → Bool
-frontOk s = all isAllowed s && onePresent (fieldsOf s)
+-- whether digits stood in a front part that has no other fault
+abbrev pub hasNumber : Before → Bool
+hasNumber edge = false
+hasNumber number = true
+hasNumber gap = true
+
+-- "the earliest byte that can't stand where it is (a front part empty or all blanks: its `/`; with two numbers: the second)",
+-- of the rest of a front part that begins at the place i
+unfoldable pub frontFaultFrom : Before → ℕ → List ℕ → Option ℕ
+frontFaultFrom w i [] = failsAt i (hasNumber w)
+frontFaultFrom w i (b ∷ s) = cond (standsInFront w b) (frontFaultFrom (after w b) (i + 1) s) (some i)
+
+abbrev pub frontFault : List ℕ → Option ℕ
+frontFault s = frontFaultFrom edge 0 s
 
 -- the number of its one field
 abbrev pub firstValue : List Field → ℕ
@@ -35,7 +46,7 @@ firstValue [] = 0
 firstValue (f ∷ fs) = valueOf f
 
 unfoldable pub frontNumber : List ℕ → ℕ
-frontNumber s = firstValue (fieldsOf s)
+frontNumber s = firstValue (fieldsFrom 0 s)
 
 -- "start..end, both included, holds the count"
 unfoldable pub holds : Partitions → ℕ → ℕ → Bool
@@ -67,10 +78,10 @@ pub data Parsed : Type 0 where
 
 -- by whether it has a `/`: 5, then what the fields refuse
 unfoldable pub parsedAt : List ℕ → List ℕ → List ℕ → Option ℕ → Answer Parsed
-parsedAt ms os s none = andThen (bytesCount ms os s) (λ r. answer (unnamed r))
+parsedAt ms os s none = andThen (bytesCount ms os s 0) (λ r. answer (unnamed r))
 parsedAt ms os s (some i) =
-    unless 5 (frontOk (take i s))
-    (andThen (bytesCount ms os (drop (i + 1) s)) (λ r. answer (named (frontNumber (take i s)) r)))
+    unlessAt 5 (frontFault (take i s))
+    (andThen (bytesCount ms os s (i + 1)) (λ r. answer (named (frontNumber (take i s)) r)))
 
 -- a stamp by the moduli and offsets: 4, 5 and the rest
 unfoldable pub parseStamp : List ℕ → List ℕ → List ℕ → Answer Parsed

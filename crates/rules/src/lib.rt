@@ -33,9 +33,16 @@ pub struct DoubleSegment {
     pub rate: f64,
 }
 
-// Why a call gives no answer: a number of document 01's table.
+// Where a refusal was found, from 0: a byte of a text or a row of a table. Most refusals have no place.
+pub enum Place {
+    None,
+    At(usize),
+}
+
+// Why a call gives no answer: a number of the table of refusals, and its place.
 pub struct Refusal {
     pub number: u64,
+    pub place: Place,
 }
 
 // What reading gives: the count of a text, the encoded count of a stamp or a message.

@@ -2,7 +2,7 @@
 use Prim.Native.Nat.{ℕ, _≤_, _<_}
 use mathlib.Core.Path.{_≡_, refl, sym, _∙_}
 use mathlib.Core.Bool.{Bool, true, false, not, _&&_, and-true}
-use mathlib.Core.Option.{Option, some}
+use mathlib.Core.Option.{some}
 use lib.Dec.{leb}
 use lib.Signed.{leZ, ltZ}
 use mir.Syntax.{w64}
@@ -11,13 +11,9 @@ use mir.Facts.{toZ-ofZ}
 use borrow.Author.Tests.{le-leb, lt-leb, lt-ltb, le-ltb, not-true, not-false}
 use Rattle.base.specs.Scans.{allOf}
 use Rattle.base.proofs.Signed.{before-not-after}
-use Rattle.base.proofs.Tests.{all-of-head, all-of-tail}
 use Rattle.rules.specs.Limits.{earliestTime, latestTime, largestRate}
 use Rattle.rules.specs.declared.Segment.{Segment}
-use Rattle.rules.specs.Segments.{rowOk, follows, lineOk, segmentOk}
-use Rattle.segments.specs.declared.row.Previous.{Previous}
-use Rattle.segments.specs.declared.row.Previous.the-variants as Before
-use Rattle.segments.specs.Rows.{previous}
+use Rattle.rules.specs.Segments.{rowOk, follows, lineOk}
 
 and-false : (b : Bool) → (b && false) ≡ false
 and-false true = refl
@@ -49,6 +45,23 @@ module _ (unit : ℕ) (s : Segment) (fits : SFits w64 (s .time)) where
     unfolding rowOk allOf
     in-limits h = rw (not-early early, not-late late, le-leb _ _ h) (sym (and-true (leb (s .rate) largestRate)))
 
+-- a row within its limits, as the code tells it
+pub within-limits : (unit : ℕ) (s : Segment) {a : Bool} → a ≡ rowOk unit s → not a ≡ false → rowOk unit s ≡ true
+within-limits unit s {a} alone good = sym alone ∙ not-false a good
+
+module _ (unit : ℕ) (s : Segment) (end : ℕ) where
+  pub not-alone : {a : Bool} → a ≡ rowOk unit s → not a ≡ true → false ≡ (rowOk unit s && lineOk unit s end)
+  not-alone {a} alone h = rw (← alone, not-true a h)
+
+  pub row-line : {a c : Bool} → a ≡ rowOk unit s → not a ≡ false → c ≡ lineOk unit s end → c ≡ (rowOk unit s && lineOk unit s end)
+  row-line {a} alone h e = rw (← alone, not-false a h) e
+
+  pub above-total : end < s .count → false ≡ ((rowOk unit s && lineOk unit s end) && leb (s .count) end)
+  above-total h = rw (lt-leb _ _ h) (sym (and-false (rowOk unit s && lineOk unit s end)))
+
+  pub within-total : s .count ≤ end → {b : Bool} → b ≡ (rowOk unit s && lineOk unit s end) → b ≡ ((rowOk unit s && lineOk unit s end) && leb (s .count) end)
+  within-total h {b} e = rw (le-leb _ _ h, ← e) (sym (and-true b))
+
 module _ (before s : Segment) where
   pub count-not-after : s .count ≤ before .count → false ≡ follows (some before) s
   unfolding follows allOf
@@ -57,31 +70,3 @@ module _ (before s : Segment) where
   pub time-after : SFits w64 (before .time) → SFits w64 (s .time) → before .count < s .count → ltZ (toZ w64 (ofZ w64 (before .time))) (toZ w64 (ofZ w64 (s .time))) ≡ follows (some before) s
   unfolding follows allOf
   time-after fb fs h = rw (lt-ltb _ _ h, toZ-ofZ fb, toZ-ofZ fs) (sym (and-true (ltZ (before .time) (s .time))))
-
-module _ (before : Previous) (s : Segment) where
-  pub after-row : (b : Segment) (r : Bool) → before ≡ Before.Row b → r ≡ follows (some b) s → r ≡ follows (previous before) s
-  after-row b r e h = rw e h
-
-  pub after-nothing : before ≡ Before.Nothing → true ≡ follows (previous before) s
-  unfolding follows
-  after-nothing e = rw e
-
--- its time is not after the latest
-pub late-enough : (unit : ℕ) (s : Segment) {a : Bool} → a ≡ rowOk unit s → not a ≡ false → leZ (s .time) latestTime ≡ true
-unfolding rowOk
-late-enough unit s {a} alone good = all-of-head _ _ (all-of-tail _ _ (sym alone ∙ not-false a good))
-
-module _ (unit : ℕ) (before : Option Segment) (s : Segment) (end : ℕ) {a : Bool} (alone : a ≡ rowOk unit s) where
-  pub not-alone : not a ≡ true → false ≡ segmentOk unit before s end
-  unfolding segmentOk allOf
-  not-alone h = rw (← alone, not-true a h)
-
-  module _ (good : not a ≡ false) where
-    module _ {b : Bool} (after : b ≡ follows before s) where
-      pub not-after : not b ≡ true → false ≡ segmentOk unit before s end
-      unfolding segmentOk allOf
-      not-after h = rw (← after, not-true b h) (sym (and-false (rowOk unit s)))
-
-      pub row-line : not b ≡ false → {c : Bool} → c ≡ lineOk unit s end → c ≡ segmentOk unit before s end
-      unfolding segmentOk allOf
-      row-line h {c} e = rw (← alone, ← after, ← e, not-false a good, not-false b h) (sym (and-true c))

@@ -1,16 +1,12 @@
 -- What the segment check answers, and what its parts ask of the lists.
 use Prim.Native.Nat.{ℕ, _+_, _≤_, _<_}
 use mathlib.Core.Path.{_≡_}
-use mathlib.Core.Option.{Option, none, some}
 use lib.ListN.{length}
-use Rattle.rules.specs.declared.Segment.{Segment}
-use Rattle.rules.specs.Answer.{Answer, answer, refused, unless}
-use Rattle.rules.specs.Segments.{Segments, segmentsIn, segmentsOk}
+use Rattle.rules.specs.Answer.{Answer, answer, refused, unlessAt}
+use Rattle.rules.specs.Segments.{Segments, segmentsIn, segmentsFault}
 use Rattle.rules.specs.Facts.{Grows}
 use Rattle.segments.specs.declared.CheckAnswer.{CheckAnswer}
 use Rattle.segments.specs.declared.CheckAnswer.the-variants as Of
-use Rattle.segments.specs.declared.row.Previous.{Previous}
-use Rattle.segments.specs.declared.row.Previous.the-variants as Before
 
 abbrev pub checkAnswer : CheckAnswer → Answer (Unit {0})
 checkAnswer Of.Accepted = answer tt
@@ -18,11 +14,7 @@ checkAnswer (Of.Refused k) = refused k
 
 -- 3, or nothing is wrong
 unfoldable pub acceptedSegments : ℕ → ℕ → Segments → Answer (Unit {0})
-acceptedSegments unit total g = unless 3 (segmentsOk unit total g) (answer tt)
-
-abbrev pub previous : Previous → Option Segment
-previous (Before.Row s) = some s
-previous Before.Nothing = none
+acceptedSegments unit total g = unlessAt 3 (segmentsFault unit total g) (answer tt)
 
 -- row i is in every list
 pub record RowIn (g : Segments) (i : ℕ) : Type 0 where

@@ -1,9 +1,10 @@
 // The segment check, and whether accepted segments step back: one pass over the rows each.
 ghost use mathlib.Core.Path.{_≡_};
-ghost use Prim.Native.Nat.{_≤_};
+ghost use Prim.Native.Nat.{_≤_, min};
 ghost use Rattle.rules.specs.Segments.{segments, stepsBack};
 ghost use Rattle.segments.specs.Rows.{checkAnswer, acceptedSegments, Rising};
-use crate::row::Previous;
+use crate::row::grows;
+use crate::row::last_row_ok;
 use crate::row::overtakes;
 use crate::row::row_at;
 use crate::row::row_ok;
@@ -17,42 +18,49 @@ pub enum CheckAnswer {
     Refused(Refusal),
 }
 
-// `unit` is the layout's 1,000×MSF, `total` that of the partitions. A row ends at the next one's count, the last at the total.
+// `unit` is the layout's 1,000×MSF, `total` that of the partitions. Wrong lengths come first; then the first row that breaks a rule.
+// A row ends at the next one's count, the last at the total. Where two rows do not grow, the later one is refused.
 pub fn check(unit: u64, total: u64, counts: &[u64], times: &[i64], rates: &[u64]) -> CheckAnswer
     requires { ⌜ 1 ≤ unit ⌝ }
     ensures { λ r. ⌜ checkAnswer r ≡ acceptedSegments unit total (segments (now (counts .entry)) (now (times .entry)) (now (rates .entry))) ⌝ }
 {
     let n = counts.len();
+    let shortest = smaller(n, smaller(times.len(), rates.len()));
     if times.len() != n {
-        return CheckAnswer::Refused(refusals::SEGMENTS);
+        return CheckAnswer::Refused(refusals::segments(shortest));
     }
     if rates.len() != n {
-        return CheckAnswer::Refused(refusals::SEGMENTS);
+        return CheckAnswer::Refused(refusals::segments(shortest));
     }
     if n < 1 {
-        return CheckAnswer::Refused(refusals::SEGMENTS);
+        return CheckAnswer::Refused(refusals::segments(shortest));
     }
     if MOST_SEGMENTS < n {
-        return CheckAnswer::Refused(refusals::SEGMENTS);
-    }
-    if total < counts[n - 1] {
-        return CheckAnswer::Refused(refusals::SEGMENTS);
+        return CheckAnswer::Refused(refusals::segments(shortest));
     }
     let last = n - 1;
-    let mut before = Previous::Nothing;
     let mut i = 0;
     while i < last {
         let row = row_at(counts, times, rates, i);
-        if !row_ok(unit, before, row, counts[i + 1]) {
-            return CheckAnswer::Refused(refusals::SEGMENTS);
+        let next = row_at(counts, times, rates, i + 1);
+        if !row_ok(unit, row, next.count) {
+            return CheckAnswer::Refused(refusals::segments(i));
         }
-        before = Previous::Row(row);
+        if !grows(row, next) {
+            return CheckAnswer::Refused(refusals::segments(i + 1));
+        }
         i += 1;
     }
-    if !row_ok(unit, before, row_at(counts, times, rates, last), total) {
-        return CheckAnswer::Refused(refusals::SEGMENTS);
+    if !last_row_ok(unit, row_at(counts, times, rates, last), total) {
+        return CheckAnswer::Refused(refusals::segments(last));
     }
     CheckAnswer::Accepted
+}
+
+fn smaller(a: usize, b: usize) -> usize
+    ensures { λ r. ⌜ r ≡ min a b ⌝ }
+{
+    if a < b { a } else { b }
 }
 
 // Whether some line, rounded up, at the next segment's count is later than the next segment's time.

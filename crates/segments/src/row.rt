@@ -1,24 +1,18 @@
 // One row of a segment list by value, and what it must meet. No division:
 // a line that is rounded up, ceil(x / unit), is at most k exactly where x is at most k * unit.
 ghost use mathlib.Core.Path.{_≡_};
-ghost use mathlib.Core.Bool.{true};
+ghost use mathlib.Core.Bool.{true, _&&_};
 ghost use mathlib.Core.Option.{some};
 ghost use Prim.Native.Nat.{_≤_};
+ghost use lib.Dec.{leb};
 ghost use lib.Signed.{leZ};
-ghost use Rattle.rules.specs.Limits.{latestTime};
-ghost use Rattle.rules.specs.Segments.{segments, rowOf, rowOk, follows as followsRow, lineOk, segmentOk, overtakes as overtakesNext};
-ghost use Rattle.segments.specs.Rows.{RowIn, previous};
+ghost use Rattle.rules.specs.Segments.{segments, rowOf, rowOk, follows, lineOk, overtakes as overtakesNext};
+ghost use Rattle.segments.specs.Rows.{RowIn};
 use layouts::limits::EARLIEST_TIME;
 use layouts::limits::LARGEST_RATE;
 use layouts::limits::LATEST_TIME;
 use rules::Segment;
 use wide::product_at_most;
-
-// The row before a row.
-pub enum Previous {
-    Row(Segment),
-    Nothing,
-}
 
 // Row `i` of the lists.
 pub fn row_at(counts: &[u64], times: &[i64], rates: &[u64], i: usize) -> Segment
@@ -32,18 +26,26 @@ pub fn row_at(counts: &[u64], times: &[i64], rates: &[u64], i: usize) -> Segment
     }
 }
 
-// What one row must meet: by itself, against the row before it, and its line to its end.
-pub fn row_ok(unit: u64, before: Previous, row: Segment, end: u64) -> bool
+// What one row must meet by itself, and its line to its end.
+pub fn row_ok(unit: u64, row: Segment, end: u64) -> bool
     requires { ⌜ 1 ≤ unit ⌝ }
-    ensures { λ r. ⌜ r ≡ segmentOk unit (previous before) row end ⌝ }
+    ensures { λ r. ⌜ r ≡ (rowOk unit row && lineOk unit row end) ⌝ }
 {
     if !in_limits(unit, row) {
         return false;
     }
-    if !follows(before, row) {
+    line_ok(unit, row, end)
+}
+
+// The same of the last row, which ends at the total: its count is at most that.
+pub fn last_row_ok(unit: u64, row: Segment, total: u64) -> bool
+    requires { ⌜ 1 ≤ unit ⌝ }
+    ensures { λ r. ⌜ r ≡ ((rowOk unit row && lineOk unit row total) && leb (row .count) total) ⌝ }
+{
+    if total < row.count {
         return false;
     }
-    line_ok(unit, row, end)
+    row_ok(unit, row, total)
 }
 
 // Time and rate are within their limits.
@@ -63,17 +65,8 @@ fn in_limits(unit: u64, row: Segment) -> bool
 }
 
 // Count and time are after those of the row before.
-fn follows(before: Previous, row: Segment) -> bool
-    ensures { λ r. ⌜ r ≡ followsRow (previous before) row ⌝ }
-{
-    match before {
-        Previous::Row(earlier) => grows(earlier, row),
-        Previous::Nothing => true,
-    }
-}
-
-fn grows(earlier: Segment, row: Segment) -> bool
-    ensures { λ r. ⌜ r ≡ followsRow (some earlier) row ⌝ }
+pub fn grows(earlier: Segment, row: Segment) -> bool
+    ensures { λ r. ⌜ r ≡ follows (some earlier) row ⌝ }
 {
     if row.count <= earlier.count {
         return false;
@@ -81,16 +74,19 @@ fn grows(earlier: Segment, row: Segment) -> bool
     earlier.time < row.time
 }
 
-// The line is at most the latest time at the count `end`.
+// The line of a row within its limits is at most the latest time at the count `end`.
 fn line_ok(unit: u64, row: Segment, end: u64) -> bool
     requires { ⌜ 1 ≤ unit ⌝ }
-    requires { ⌜ leZ (row .time) latestTime ≡ true ⌝ }
+    requires { ⌜ rowOk unit row ≡ true ⌝ }
     ensures { λ r. ⌜ r ≡ lineOk unit row end ⌝ }
 {
+    if end <= row.count {
+        return true;
+    }
     product_at_most(
         row.rate,
-        wide::less(end, row.count),
-        signed::elapsed(row.time, LATEST_TIME),
+        end - row.count,
+        signed::difference(row.time, LATEST_TIME),
         unit,
     )
 }

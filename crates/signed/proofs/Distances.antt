@@ -1,13 +1,14 @@
 -- Distances of times by their ordinals.
-use Prim.Native.Nat.{ℕ, _+_, _-_, _^_, _≤_, _<_}
+use Prim.Native.Nat.{ℕ, zero, suc, _+_, _-_, _^_, _≤_, _<_}
 use mathlib.Core.Path.{_≡_, refl, sym, _∙_}
-use mathlib.Core.Bool.{true}
-use lib.IntN.{ℤ, pos, negsuc}
-use lib.Signed.{mag, leZ}
+use mathlib.Core.Bool.{true, true≢false}
+use lib.Dec.{T}
+use lib.IntN.{ℤ, pos, negsuc, natAbs, _-ℤ_}
+use lib.Signed.{mag, leZ, nonNeg}
 use mir.Syntax.{w64}
 use mir.Val.{Fits, SFits, toZ, ofZ}
 use mir.Facts.{toZ-ofZ}
-use borrow.Author.Tests.{leb-true}
+use borrow.Author.Tests.{leb-true, le-ltb}
 use native.Mathlib.Omega.{arith}
 use Rattle.base.specs.Signed.{later, elapsed, ordinal}
 use Rattle.base.proofs.Signed.{ordinal-later, ordinal-one, ordinal-elapsed, ordinal-le}
@@ -23,6 +24,31 @@ module _ (s t : ℤ) (fs : SFits w64 s) (ft : SFits w64 t) (h : leZ s t ≡ true
 
   pub difference : k - m ≡ elapsed s t
   difference = rw (hk, hm, toZ-ofZ fs, toZ-ofZ ft) (sym (ordinal-elapsed (2 ^ 63) s t (fs .sfits) (ft .sfits) h))
+
+-- a difference that is not negative
+rises : (s t : ℤ) → leZ s t ≡ true → t -ℤ s ≡ pos (elapsed s t)
+unfolding elapsed
+rises (pos zero) (pos n) h = refl
+rises (pos (suc m)) (pos n) h = rw (le-ltb n (suc m) (leb-true (suc m) n h))
+rises (pos m) (negsuc n) h = absurd (true≢false (sym h))
+rises (negsuc m) (pos n) h = refl
+rises (negsuc m) (negsuc n) h = rw (le-ltb (suc m) (suc n) (up (leb-true n m h)))
+  where
+    up : n ≤ m → suc n ≤ suc m
+    up l = omega arith
+
+module _ (s t : ℤ) (fs : SFits w64 s) (ft : SFits w64 t) (h : leZ s t ≡ true) (near : elapsed s t < 2 ^ 63) where
+  difference-pos : toZ w64 (ofZ w64 t) -ℤ toZ w64 (ofZ w64 s) ≡ pos (elapsed s t)
+  difference-pos = rw (toZ-ofZ fs, toZ-ofZ ft) (rises s t h)
+
+  pub difference-fits : SFits w64 (toZ w64 (ofZ w64 t) -ℤ toZ w64 (ofZ w64 s))
+  difference-fits = rw difference-pos (record { sfits = near })
+
+  pub difference-cast : T (nonNeg (toZ w64 (ofZ w64 (toZ w64 (ofZ w64 t) -ℤ toZ w64 (ofZ w64 s))))) × Fits w64 (natAbs (toZ w64 (ofZ w64 (toZ w64 (ofZ w64 t) -ℤ toZ w64 (ofZ w64 s)))))
+  difference-cast = rw (toZ-ofZ difference-fits, difference-pos) (tt, record { fits = omega (arith, near) })
+
+  pub difference-is : natAbs (toZ w64 (ofZ w64 (toZ w64 (ofZ w64 t) -ℤ toZ w64 (ofZ w64 s)))) ≡ elapsed s t
+  difference-is = rw (toZ-ofZ difference-fits, difference-pos)
 
 module _ (t : ℤ) (ft : SFits w64 t) (d : ℕ) (h : mag (later t d) < 2 ^ 63) (k : ℕ) (hk : k ≡ ordinal (2 ^ 63) (toZ w64 (ofZ w64 t))) where
   pub sum-fits : Fits w64 (k + d)

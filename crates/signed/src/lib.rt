@@ -15,6 +15,14 @@ pub fn elapsed(from: i64, to: i64) -> u64
     ordinal(to) - ordinal(from)
 }
 
+// The same of numbers that are near enough for their difference to be an i64.
+pub fn difference(from: i64, to: i64) -> u64
+    requires { ⌜ (leZ from to ≡ true) × (elapsedOf from to < 2 ^ 63) ⌝ }
+    ensures { λ r. ⌜ r ≡ elapsedOf from to ⌝ }
+{
+    (to - from) as u64
+}
+
 // `distance` after `time`.
 pub fn later(time: i64, distance: u64) -> i64
     requires { ⌜ mag (laterOf time distance) < 2 ^ 63 ⌝ }

@@ -12,6 +12,7 @@ use native.Mathlib.Nat.{add-assoc, add-zero}
 use native.Mathlib.Numerals.{add-one}
 use native.Mathlib.Omega.{arith}
 use Rattle.base.specs.Signed.{ordinal}
+use Rattle.rules.specs.declared.Place.the-variants as Places
 use Rattle.rules.specs.declared.Refusal.{Refusal}
 use Rattle.rules.specs.declared.StampAnswer.{StampAnswer}
 use Rattle.rules.specs.declared.StampAnswer.the-variants as Of
@@ -24,7 +25,7 @@ use Rattle.roundtrip.proofs.Digits.{digits-below, last-length}
 use Rattle.decimal.proofs.Digits.{digit-count-word, digits-room}
 use Rattle.decimal.proofs.LeftToRight.{nothing-written, written-same-length, written-then, byte-then}
 use Rattle.lines.specs.Lines.{lineEnd}
-use Rattle.stamp_lines.specs.Output.{decimalOf, timeBytes, stampBytes, longestNumber, longestAnswer}
+use Rattle.stamp_lines.specs.Output.{decimalOf, timeBytes, placeBytes, refusalBytes, stampBytes, longestNumber, longestNumbers, longestAnswer}
 
 -- a text, byte by byte
 module _ (text : List ℕ) (at : ℕ) (entry : List ℕ) where
@@ -92,15 +93,33 @@ pub timed-written : (s : TimedStamp) (mid at r : ℕ) {entry out exit : List ℕ
 unfolding stampBytes
 timed-written s mid at r f w v h k = rw append-assoc at (written-then w (rw (toZ-ofZ f) at v) (omega arith))
 
-module _ (k : Refusal) (mid at : ℕ) {entry out : List ℕ} (room : at + longestAnswer ≤ length entry) (w : Written (114 ∷ 101 ∷ 102 ∷ 117 ∷ 115 ∷ 101 ∷ 100 ∷ 32 ∷ []) mid at entry out) where
-  pub refused-room : Fits w64 (k .number) → mid + digitCount (k .number) < length out
-  refused-room f = omega (arith, digit-count-word (k .number) (f .fits), w .ends, written-same-length w (omega (arith, w .ends)))
+-- a refusal's number, and its place
+pub numbers-room : (x at : ℕ) (b : List ℕ) → Fits w64 x → at + longestNumbers ≤ length b → at + digitCount x < length b
+numbers-room x at b f h = omega (arith, digit-count-word x (f .fits))
 
-  pub refused-written : (r : ℕ) {exit : List ℕ} → Written (decimalOf (k .number) ++ (lineEnd ∷ [])) r mid out exit → Written (stampBytes (refused k)) r at entry exit
+module _ (k : Refusal) (at r : ℕ) {entry exit : List ℕ} where
+  pub unplaced-written : k .place ≡ Places.None → Written (decimalOf (k .number) ++ (lineEnd ∷ [])) r at entry exit → Written (refusalBytes k) r at entry exit
+  unfolding refusalBytes placeBytes
+  unplaced-written e w = rw e w
+
+  pub placed-written : (i mid : ℕ) {out : List ℕ} → k .place ≡ Places.At i → at + longestNumbers ≤ length entry → mid ≤ at + longestNumber + 1
+      → Written (decimalOf (k .number) ++ (32 ∷ [])) mid at entry out → Written (decimalOf i ++ (lineEnd ∷ [])) r mid out exit → Written (refusalBytes k) r at entry exit
+  unfolding refusalBytes placeBytes
+  placed-written i mid e h l w v = rw e (rw append-assoc at (written-then w v (omega arith)))
+
+pub place-room : (x y at mid : ℕ) {entry out : List ℕ} → Fits w64 y → at + longestNumbers ≤ length entry → mid ≤ at + longestNumber + 1
+    → Written (decimalOf x ++ (32 ∷ [])) mid at entry out → mid + digitCount y < length out
+place-room x y at mid f h l w = omega (arith, digit-count-word y (f .fits), written-same-length w (omega arith))
+
+module _ (k : Refusal) (mid at : ℕ) {entry out : List ℕ} (room : at + longestAnswer ≤ length entry) (w : Written (114 ∷ 101 ∷ 102 ∷ 117 ∷ 115 ∷ 101 ∷ 100 ∷ 32 ∷ []) mid at entry out) where
+  pub refused-room : mid + longestNumbers ≤ length out
+  refused-room = omega (arith, w .ends, written-same-length w (omega (arith, w .ends)))
+
+  pub refused-written : (r : ℕ) {exit : List ℕ} → Written (refusalBytes k) r mid out exit → Written (stampBytes (refused k)) r at entry exit
   unfolding stampBytes bytes
   refused-written r v = written-then w v (omega (arith, w .ends))
 
-  pub refused-short : (r : ℕ) → r ≤ mid + longestNumber + 1 → r ≤ at + longestAnswer
+  pub refused-short : (r : ℕ) → r ≤ mid + longestNumbers → r ≤ at + longestAnswer
   refused-short r h = omega (arith, w .ends)
 
 -- an answer by its cases

@@ -3,14 +3,15 @@ use Prim.Native.Nat.{ℕ, _<_}
 use mathlib.Core.Path.{_≡_, refl, sym, ap, _∙_}
 use mathlib.Core.Bool.{true}
 use mathlib.Core.List.{List, [], _∷_, _++_, map, flatten, append-assoc}
+use mathlib.Core.Option.{none}
 use lib.ListN.{length}
 use borrow.Author.Tests.{lt-leb}
 use native.Mathlib.Omega.{arith}
 use Rattle.rules.specs.Limits.{longestText}
-use Rattle.rules.specs.Answer.{refuse, unless, andThen}
+use Rattle.rules.specs.Answer.{refuse, unless, unlessAt, andThen}
 use Rattle.rules.specs.Computing.{computing}
 use Rattle.rules.specs.Layout.{layoutOk, productOf}
-use Rattle.rules.specs.Partitions.{partitionsOk}
+use Rattle.rules.specs.Partitions.{partitionsFault}
 use Rattle.rules.specs.Stamp.{readStamp, parseStamp}
 use Rattle.rules.specs.StampTime.{timeOfStamp}
 use Rattle.rules.specs.Examples.{layoutA, partitionsA}
@@ -27,12 +28,12 @@ layout-a-ok : layoutOk layoutA ≡ true
 unfolding computing layoutA
 layout-a-ok = refl
 
-partitions-a-ok : partitionsOk (productOf layoutA) partitionsA ≡ true
+partitions-a-ok : partitionsFault (productOf layoutA) partitionsA ≡ none
 unfolding computing layoutA partitionsA
 partitions-a-ok = refl
 
 pub long-line : (l : List ℕ) → longestText < length l → answerLine l ≡ stampBytes (refuse 4)
-unfolding answerLine lineStamp timeOfStamp readStamp parseStamp unless andThen
+unfolding answerLine lineStamp timeOfStamp readStamp parseStamp unless unlessAt andThen
 long-line l h = rw (layout-a-ok, partitions-a-ok, lt-leb (length l) longestText h)
 
 -- what the line buffer keeps of a line has the answer of the line

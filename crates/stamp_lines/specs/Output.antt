@@ -1,9 +1,12 @@
 -- "The stamp program holds table A, reads lines (up to byte 10 or the end of input) from standard input .. and prints encoded
--- count and time, or `refused` and the number."
+-- count and time, or `refused` and the number." Request 3: a place is printed after the number.
 use Prim.Native.Nat.{ℕ, _+_}
 use mathlib.Core.List.{List, [], _∷_, _++_, map, flatten}
 use lib.IntN.{ℤ, pos, negsuc}
 use Rattle.lines.specs.Lines.{lineEnd, linesOf}
+use Rattle.rules.specs.declared.Place.{Place}
+use Rattle.rules.specs.declared.Place.the-variants as Places
+use Rattle.rules.specs.declared.Refusal.{Refusal}
 use Rattle.rules.specs.declared.TimedStamp.{TimedStamp}
 use Rattle.rules.specs.Answer.{Answer, answer, refused}
 use Rattle.rules.specs.Print.{digitCount, lastDigits}
@@ -23,10 +26,18 @@ unfoldable pub timeBytes : ℤ → List ℕ
 timeBytes (pos n) = decimalOf n
 timeBytes (negsuc n) = 45 ∷ decimalOf (n + 1)
 
+-- a refusal's number, a blank and its place where it has one, and the byte that ends its line
+unfoldable pub placeBytes : Place → List ℕ
+placeBytes Places.None = []
+placeBytes (Places.At i) = 32 ∷ decimalOf i
+
+unfoldable pub refusalBytes : Refusal → List ℕ
+refusalBytes k = decimalOf (k .number) ++ (placeBytes (k .place) ++ (lineEnd ∷ []))
+
 -- an answer, a blank between its numbers, and the byte that ends its line
 unfoldable pub stampBytes : Answer TimedStamp → List ℕ
 stampBytes (answer s) = decimalOf (s .count) ++ (32 ∷ (timeBytes (s .time) ++ (lineEnd ∷ [])))
-stampBytes (refused k) = bytes "refused " ++ (decimalOf (k .number) ++ (lineEnd ∷ []))
+stampBytes (refused k) = bytes "refused " ++ refusalBytes k
 
 unfoldable pub answerLine : List ℕ → List ℕ
 answerLine line = stampBytes (lineStamp line)
@@ -43,6 +54,10 @@ outputOf input = answersOf (linesOf input)
 abbrev pub longestNumber : ℕ
 longestNumber = 20
 
--- the most bytes of an answer: two numbers, the blank and byte 10
+-- the most bytes of two numbers, the blank and byte 10
+abbrev pub longestNumbers : ℕ
+longestNumbers = longestNumber + 1 + longestNumber + 1
+
+-- the most bytes of an answer: `refused ` and two numbers
 abbrev pub longestAnswer : ℕ
-longestAnswer = longestNumber + 1 + longestNumber + 1
+longestAnswer = 8 + longestNumbers

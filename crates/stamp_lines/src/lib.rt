@@ -1,5 +1,5 @@
-// The stamp program: stamps from standard input under table A, for each line its encoded count and its time, or `refused` and
-// the number. `run`, `write_answers` and `write_last` move bytes by system calls; all else works on slices, and its contracts say
+// The stamp program: stamps from standard input under table A, for each line its encoded count and its time, or `refused`,
+// the number and its place. `run`, `write_answers` and `write_last` move bytes by system calls; all else works on slices, and its contracts say
 // every byte.
 ghost use mathlib.Core.Path.{_≡_};
 ghost use mathlib.Core.Bool.{cond};
@@ -23,7 +23,7 @@ use stamp_time::time_of_stamp;
 mod put;
 
 // Where the chunk goes on, how many bytes of the line under way are kept, and how many bytes of answers are put.
-pub struct Place {
+pub struct Progress {
     pub at: usize,
     pub kept: usize,
     pub put: usize,
@@ -94,7 +94,13 @@ fn write_last(line: &[u8], kept: usize, out: &mut [u8])
 
 // Puts the answers of the lines that end in the chunk from `at` on to the front of the buffer, until the chunk is used up or the
 // buffer has no room for the longest answer.
-pub fn answer_chunk(chunk: &[u8], at: usize, line: &mut [u8], kept: usize, out: &mut [u8]) -> Place
+pub fn answer_chunk(
+    chunk: &[u8],
+    at: usize,
+    line: &mut [u8],
+    kept: usize,
+    out: &mut [u8],
+) -> Progress
     requires { ⌜ at ≤ length (now chunk) ⌝ }
     requires { ⌜ length (now line) ≡ lineBuffer ⌝ }
     requires { ⌜ kept ≤ lineBuffer ⌝ }
@@ -109,7 +115,7 @@ pub fn answer_chunk(chunk: &[u8], at: usize, line: &mut [u8], kept: usize, out: 
     let mut put = 0;
     while i < chunk.len() {
         if last < put {
-            return Place {
+            return Progress {
                 at: i,
                 kept: held,
                 put,
@@ -120,7 +126,7 @@ pub fn answer_chunk(chunk: &[u8], at: usize, line: &mut [u8], kept: usize, out: 
         put = put_ended(out, put, step, line);
         held = kept_after(step);
     }
-    Place {
+    Progress {
         at: i,
         kept: held,
         put,

@@ -7,15 +7,16 @@ ghost use Rattle.rules.specs.Answer.{stampAnswer, answer, refused};
 ghost use Rattle.rules.specs.Print.{digitCount};
 ghost use Rattle.decimal.specs.Writing.{Written};
 ghost use Rattle.lines.specs.Lines.{lineEnd};
-ghost use Rattle.stamp_lines.specs.Output.{decimalOf, timeBytes, stampBytes, longestNumber, longestAnswer};
+ghost use Rattle.stamp_lines.specs.Output.{decimalOf, timeBytes, refusalBytes, stampBytes, longestNumber, longestNumbers, longestAnswer};
 use decimal::digit_count;
 use decimal::write_digits;
+use rules::Place;
 use rules::Refusal;
 use rules::StampAnswer;
 use rules::TimedStamp;
 
-// Two numbers of 20 bytes, a blank and byte 10.
-pub const LONGEST_ANSWER: usize = 42;
+// `refused `, two numbers of 20 bytes, a blank and byte 10.
+pub const LONGEST_ANSWER: usize = 50;
 
 const LINE_END: u8 = b'\n';
 
@@ -49,7 +50,24 @@ fn put_refused(out: &mut [u8], at: usize, refusal: Refusal) -> usize
     ensures { λ r. ⌜ r ≤ at + longestAnswer ⌝ }
 {
     let place = put_bytes(out, at, b"refused ");
-    put_number(out, place, refusal.number, LINE_END)
+    put_refusal(out, place, refusal)
+}
+
+// A refusal's number, its place where it has one, and byte 10.
+fn put_refusal(out: &mut [u8], at: usize, refusal: Refusal) -> usize
+    requires { ⌜ at + longestNumbers ≤ length (now out) ⌝ }
+    ensures { λ r. ⌜ Written (refusalBytes refusal) r at (now (out .entry)) (now (out .exit)) ⌝ }
+    ensures { λ r. ⌜ r ≤ at + longestNumbers ⌝ }
+{
+    let number = refusal.number;
+    let found = refusal.place;
+    match found {
+        Place::None => put_number(out, at, number, LINE_END),
+        Place::At(i) => {
+            let place = put_number(out, at, number, BLANK);
+            put_number(out, place, i as u64, LINE_END)
+        }
+    }
 }
 
 // A time and byte 10.

@@ -11,17 +11,17 @@ use Rattle.rules.specs.declared.TimeOfCount.{TimeOfCount}
 use Rattle.rules.specs.declared.TimeAnswer.{TimeAnswer}
 use Rattle.rules.specs.declared.TimeAnswer.the-variants as Times
 use Rattle.rules.specs.declared.TimedStamp.{TimedStamp}
-use Rattle.rules.specs.Answer.{Answer, answer, refused, unless, andThen, readAnswer, timeAnswer, timedStamp}
+use Rattle.rules.specs.Answer.{Answer, answer, refused, unlessAt, andThen, readAnswer, timeAnswer, timedStamp}
 use Rattle.rules.specs.Layout.{moduliOf, offsetsOf, unitOf}
 use Rattle.rules.specs.Partitions.{Partitions, totalOf}
-use Rattle.rules.specs.Segments.{Segments, segmentsOk}
+use Rattle.rules.specs.Segments.{Segments, segmentsFault}
 use Rattle.rules.specs.Facts.{SegmentsFacts}
 use Rattle.rules.specs.Stamp.{parseStamp, encode, readStamp}
 use Rattle.rules.specs.Accepted.{accepted}
 use Rattle.rules.specs.Time.{timeIn, timeOf}
 use Rattle.rules.specs.StampTime.{withTime, timeOfStamp, timeOfMessage}
 use Rattle.rules.proofs.Accepted.{segments-facts}
-use Rattle.rules.proofs.Answers.{unless-test}
+use Rattle.rules.proofs.Answers.{unless-at-none}
 use Rattle.layouts.specs.declared.MeasureAnswer.{MeasureAnswer}
 use Rattle.layouts.specs.Measure.{measureAnswer, measureOf}
 use Rattle.segments.specs.declared.CheckAnswer.{CheckAnswer}
@@ -32,23 +32,23 @@ use Rattle.tables.specs.declared.Acceptance.{Acceptance}
 use Rattle.tables.specs.declared.Acceptance.the-variants as Accepts
 use Rattle.tables.specs.Accept.{acceptance, stampsBasis, BasisFacts}
 use Rattle.tables.proofs.Accepted.{stamps-facts, stamps-accepted}
-use Rattle.tables.proofs.Guards.{then-unless}
-use Rattle.rules.specs.Message.{messageOk, textIn, readMessage}
+use Rattle.tables.proofs.Guards.{then-unless-at}
+use Rattle.rules.specs.Message.{acceptedMessage, textIn, readMessage}
 use Rattle.message.specs.declared.TextStart.{TextStart}
 use Rattle.message.specs.declared.TextStart.the-variants as Starts
 use Rattle.message.specs.Part.{textStart, startIn}
-use Rattle.message.proofs.Trailer.{start-refused, start-accepted}
+use Rattle.message.proofs.Trailer.{then-accepted, start-refused, start-accepted}
 use Rattle.text.proofs.Calls.{stamp-refused, stamp-accepted}
 
 -- 3, or the time of e
 abbrev checkedTime : ℕ → ℕ → Segments → ℕ → Answer TimeOfCount
-checkedTime unit total g e = unless 3 (segmentsOk unit total g) (timeIn unit total g e)
+checkedTime unit total g e = unlessAt 3 (segmentsFault unit total g) (timeIn unit total g e)
 
 -- `timed`: the segments' check answered c
 module _ (unit total : ℕ) (g : Segments) (e : ℕ) (c : CheckAnswer) (v : checkAnswer c ≡ acceptedSegments unit total g) where
   after-check : andThen (checkAnswer c) (λ _. timeIn unit total g e) ≡ checkedTime unit total g e
   unfolding acceptedSegments andThen
-  after-check = rw v (then-unless 3 (segmentsOk unit total g) (answer tt) (λ _. timeIn unit total g e))
+  after-check = rw v (then-unless-at 3 (segmentsFault unit total g) (answer tt) (λ _. timeIn unit total g e))
 
   pub segments-out : (k : Refusal) → c ≡ Checks.Refused k → refused k ≡ withTime e (checkedTime unit total g e)
   unfolding withTime andThen
@@ -57,7 +57,7 @@ module _ (unit total : ℕ) (g : Segments) (e : ℕ) (c : CheckAnswer) (v : chec
   module _ (h : c ≡ Checks.Accepted) where
     pub rows : SegmentsFacts unit total g
     unfolding acceptedSegments
-    rows = segments-facts unit total g (unless-test 3 (segmentsOk unit total g) (answer tt) tt (rw h at (sym v)))
+    rows = segments-facts unit total g (rw (unless-at-none 3 (segmentsFault unit total g) (answer tt) tt (rw h at (sym v))))
 
     module _ (a : TimeAnswer) (q : timeAnswer a ≡ timeIn unit total g e) where
       after-time : withTime e (timeAnswer a) ≡ withTime e (checkedTime unit total g e)
@@ -107,9 +107,9 @@ module _ (l : Layout) (p : Partitions) (g : Segments) (s : List ℕ) where
 
 -- `time_of_message`, after `text_start` answered r
 module _ (l : Layout) (p : Partitions) (g : Segments) (m : List ℕ) (r : TextStart) (e : textStart r ≡ startIn m) where
-  guarded : unless 17 (messageOk m) (timeOfStamp l p g (textIn m)) ≡ timeOfMessage l p g m
+  guarded : acceptedMessage m (timeOfStamp l p g (textIn m)) ≡ timeOfMessage l p g m
   unfolding timeOfMessage timeOfStamp readMessage
-  guarded = sym (then-unless 17 (messageOk m) (readStamp l p (textIn m)) (λ x. withTime (x .count) (timeOf l p g (x .count))))
+  guarded = sym (then-accepted m (readStamp l p (textIn m)) (λ x. withTime (x .count) (timeOf l p g (x .count))))
 
   pub message-out : (k : Refusal) → r ≡ Starts.Refused k → refused k ≡ timeOfMessage l p g m
   message-out k h = start-refused m r e k _ h ∙ guarded

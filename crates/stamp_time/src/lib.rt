@@ -1,8 +1,8 @@
 // A stamp or a message to its encoded count and its time, with one check of each table.
 ghost use mathlib.Core.Path.{_≡_};
-ghost use Rattle.rules.specs.Answer.{unless, stampAnswer};
+ghost use Rattle.rules.specs.Answer.{unlessAt, stampAnswer};
 ghost use Rattle.rules.specs.Partitions.{partitions};
-ghost use Rattle.rules.specs.Segments.{segments, segmentsOk};
+ghost use Rattle.rules.specs.Segments.{segments, segmentsFault};
 ghost use Rattle.rules.specs.Time.{timeIn};
 ghost use Rattle.rules.specs.StampTime.{withTime, timeOfStamp, timeOfMessage};
 ghost use Rattle.tables.specs.Accept.{BasisFacts};
@@ -88,7 +88,7 @@ fn timed(
     count: u64,
 ) -> StampAnswer
     requires { ⌜ BasisFacts unit total ⌝ }
-    ensures { λ r. ⌜ stampAnswer r ≡ withTime count (unless 3 (segmentsOk unit total (segments (now (counts .entry)) (now (times .entry)) (now (rates .entry)))) (timeIn unit total (segments (now (counts .entry)) (now (times .entry)) (now (rates .entry))) count)) ⌝ }
+    ensures { λ r. ⌜ stampAnswer r ≡ withTime count (unlessAt 3 (segmentsFault unit total (segments (now (counts .entry)) (now (times .entry)) (now (rates .entry)))) (timeIn unit total (segments (now (counts .entry)) (now (times .entry)) (now (rates .entry))) count)) ⌝ }
 {
     match segments::check(unit, total, counts, times, rates) {
         CheckAnswer::Accepted => match time_within(unit, total, counts, times, rates, count) {

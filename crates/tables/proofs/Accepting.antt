@@ -4,12 +4,12 @@ use mathlib.Core.Path.{_≡_, refl, sym, _∙_, ap}
 use mathlib.Core.Bool.{Bool}
 use Rattle.rules.specs.declared.Layout.{Layout}
 use Rattle.rules.specs.declared.Refusal.{Refusal}
-use Rattle.rules.specs.Answer.{Answer, answer, refused, unless, andThen}
+use Rattle.rules.specs.Answer.{Answer, answer, refused, unlessAt, andThen}
 use Rattle.rules.specs.Layout.{unitOf}
-use Rattle.rules.specs.Partitions.{Partitions, partitionsOk, totalOf}
-use Rattle.rules.specs.Segments.{Segments, segmentsOk, stepsBack}
+use Rattle.rules.specs.Partitions.{Partitions, partitionsFault, totalOf}
+use Rattle.rules.specs.Segments.{Segments, segmentsFault, stepsBack}
 use Rattle.rules.specs.Time.{stepsBackIn}
-use Rattle.rules.proofs.Answers.{payload, not-answer, unless-rest}
+use Rattle.rules.proofs.Answers.{payload, not-answer, unless-at-rest}
 use Rattle.layouts.specs.declared.Measured.{Measured}
 use Rattle.layouts.specs.declared.MeasureAnswer.{MeasureAnswer}
 use Rattle.layouts.specs.declared.MeasureAnswer.the-variants as Of
@@ -24,7 +24,7 @@ use Rattle.tables.specs.declared.Basis.{Basis}
 use Rattle.tables.specs.declared.Acceptance.{Acceptance}
 use Rattle.tables.specs.declared.Acceptance.the-variants.{Accepted, Refused}
 use Rattle.tables.specs.Accept.{basis, acceptance, stampsBasis, tableBasis}
-use Rattle.tables.proofs.Guards.{then-unless}
+use Rattle.tables.proofs.Guards.{then-unless-at}
 use Rattle.tables.proofs.Accepted.{table-refused, table-facts, table-accepted}
 
 -- two steps are one
@@ -41,7 +41,7 @@ module _ (measured : MeasureAnswer) (p : Partitions) where
   module _ (m : Measured) (told : measured ≡ Of.Accepted m) (t : TotalAnswer) (e : totalAnswer t ≡ acceptedTotal (m .product) p) where
     after-total : andThen (totalAnswer t) (λ n. answer (basis (m .unit) n)) ≡ andThen (measureAnswer measured) (stampsBasis p)
     unfolding acceptedTotal stampsBasis andThen
-    after-total = rw (e, told) (then-unless 2 (partitionsOk (m .product) p) (answer (totalOf p)) (λ n. answer (basis (m .unit) n)))
+    after-total = rw (e, told) (then-unless-at 2 (partitionsFault (m .product) p) (answer (totalOf p)) (λ n. answer (basis (m .unit) n)))
 
     pub bad-partitions : (k : Refusal) → t ≡ Sums.Refused k → refused k ≡ andThen (measureAnswer measured) (stampsBasis p)
     unfolding andThen
@@ -53,9 +53,9 @@ module _ (measured : MeasureAnswer) (p : Partitions) where
 
 -- `accept`, after `accept_stamps` answered a
 module _ (measured : MeasureAnswer) (p : Partitions) (g : Segments) (a : Acceptance) (e : acceptance a ≡ andThen (measureAnswer measured) (stampsBasis p)) where
-  after-stamps : andThen (acceptance a) (λ b. unless 3 (segmentsOk (b .unit) (b .total) g) (answer b)) ≡ andThen (measureAnswer measured) (tableBasis p g)
+  after-stamps : andThen (acceptance a) (λ b. unlessAt 3 (segmentsFault (b .unit) (b .total) g) (answer b)) ≡ andThen (measureAnswer measured) (tableBasis p g)
   unfolding tableBasis
-  after-stamps = rw e (then-then (measureAnswer measured) (stampsBasis p) (λ b. unless 3 (segmentsOk (b .unit) (b .total) g) (answer b)))
+  after-stamps = rw e (then-then (measureAnswer measured) (stampsBasis p) (λ b. unlessAt 3 (segmentsFault (b .unit) (b .total) g) (answer b)))
 
   pub stamps-out : (k : Refusal) → a ≡ Refused k → refused k ≡ andThen (measureAnswer measured) (tableBasis p g)
   unfolding andThen
@@ -65,7 +65,7 @@ module _ (measured : MeasureAnswer) (p : Partitions) (g : Segments) (a : Accepta
     after-check : andThen (checkAnswer c) (λ _. answer b) ≡ andThen (measureAnswer measured) (tableBasis p g)
     unfolding andThen acceptedSegments
     after-check =
-        rw v (then-unless 3 (segmentsOk (b .unit) (b .total) g) (answer tt) (λ _. answer b)) ∙ rw told at after-stamps
+        rw v (then-unless-at 3 (segmentsFault (b .unit) (b .total) g) (answer tt) (λ _. answer b)) ∙ rw told at after-stamps
 
     pub segments-out : (k : Refusal) → c ≡ Checks.Refused k → refused k ≡ andThen (measureAnswer measured) (tableBasis p g)
     unfolding andThen
@@ -79,7 +79,7 @@ module _ (measured : MeasureAnswer) (p : Partitions) (g : Segments) (a : Accepta
 pub unit-divides : (measured : MeasureAnswer) (p : Partitions) (a : Acceptance) → InLimits measured → acceptance a ≡ andThen (measureAnswer measured) (stampsBasis p) → (b : Basis) → a ≡ Accepted b → 1 ≤ b .unit
 unfolding andThen stampsBasis
 unit-divides (Of.Accepted m) p a w e b h =
-    let same = payload (unless-rest 2 (partitionsOk (m .product) p) _ b (rw h at (sym e))) in
+    let same = payload (unless-at-rest 2 (partitionsFault (m .product) p) _ b (rw h at (sym e))) in
     rw (← same) (w .unit m refl .low)
 unit-divides (Of.Refused k) p a w e b h = absurd (not-answer (rw h at (sym e)))
 

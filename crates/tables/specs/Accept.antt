@@ -2,11 +2,11 @@
 use Prim.Native.Nat.{ℕ, _≤_}
 use mathlib.Core.Path.{_≡_}
 use Rattle.rules.specs.declared.Layout.{Layout}
-use Rattle.rules.specs.Answer.{Answer, answer, refused, unless, andThen}
+use Rattle.rules.specs.Answer.{Answer, answer, refused, unlessAt, andThen}
 use Rattle.rules.specs.Limits.{largestTotal}
 use Rattle.rules.specs.Layout.{productOf, unitOf}
-use Rattle.rules.specs.Partitions.{Partitions, partitionsOk, totalOf}
-use Rattle.rules.specs.Segments.{Segments, segmentsOk}
+use Rattle.rules.specs.Partitions.{Partitions, partitionsFault, totalOf}
+use Rattle.rules.specs.Segments.{Segments, segmentsFault}
 use Rattle.rules.specs.Facts.{LayoutFacts, PartitionsFacts, SegmentsFacts}
 use Rattle.layouts.specs.declared.Measured.{Measured}
 use Rattle.layouts.specs.Measure.{UnitFacts}
@@ -23,11 +23,11 @@ acceptance (Refused k) = refused k
 
 -- 2, after the layout: the basis for stamps
 unfoldable pub stampsBasis : Partitions → Measured → Answer Basis
-stampsBasis p m = unless 2 (partitionsOk (m .product) p) (answer (basis (m .unit) (totalOf p)))
+stampsBasis p m = unlessAt 2 (partitionsFault (m .product) p) (answer (basis (m .unit) (totalOf p)))
 
 -- and 3: the basis for times
 unfoldable pub tableBasis : Partitions → Segments → Measured → Answer Basis
-tableBasis p g m = andThen (stampsBasis p m) (λ b. unless 3 (segmentsOk (b .unit) (b .total) g) (answer b))
+tableBasis p g m = andThen (stampsBasis p m) (λ b. unlessAt 3 (segmentsFault (b .unit) (b .total) g) (answer b))
 
 -- what the numbers of a basis may be
 pub record BasisFacts (unit total : ℕ) : Type 0 where

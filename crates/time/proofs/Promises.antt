@@ -18,13 +18,13 @@ use Rattle.rules.specs.declared.TimeOfCount.{TimeOfCount}
 use Rattle.rules.specs.declared.CountAtTime.{CountAtTime}
 use Rattle.rules.specs.Answer.{Answer, answer, timeOfCount, countAtTime}
 use Rattle.rules.specs.Layout.{layoutOk, productOf, unitOf}
-use Rattle.rules.specs.Partitions.{Partitions, totalOf, partitionsOk}
-use Rattle.rules.specs.Segments.{Segments, rowOf, lineAt, segmentsOk}
+use Rattle.rules.specs.Partitions.{Partitions, totalOf, partitionsFault}
+use Rattle.rules.specs.Segments.{Segments, rowOf, lineAt, segmentsFault}
 use Rattle.rules.specs.Facts.{SegmentsFacts}
 use Rattle.rules.specs.Accepted.{accepted}
 use Rattle.rules.specs.Time.{segmentOf, segmentAt, timeOn, timeIn, timeOf, notBeyond, countOn, countIn, countAt, ticksSince, lineCount, stoppedAt}
 use Rattle.rules.proofs.Accepted.{layout-facts, segments-facts}
-use Rattle.rules.proofs.Answers.{payload, not-answer, unless-test, unless-rest}
+use Rattle.rules.proofs.Answers.{payload, not-answer, unless-test, unless-rest, unless-at-none, unless-at-rest}
 use Rattle.layouts.specs.Measure.{UnitFacts}
 use Rattle.layouts.proofs.Units.{unit-facts}
 use Rattle.time.specs.Promises.{TimeIsNearest, CountIsNearest, TickLasts, TimeInRange, TwelveNotThirteen}
@@ -39,11 +39,11 @@ passed : {A : Type 0} (l : Layout) (p : Partitions) (g : Segments) (a : Answer A
 unfolding accepted
 passed l p g a x e =
     let e2 = unless-rest 1 (layoutOk l) _ x e in
-    let e3 = unless-rest 2 (partitionsOk (productOf l) p) _ x e2 in
+    let e3 = unless-at-rest 2 (partitionsFault (productOf l) p) _ x e2 in
     record {
       unit = unit-facts l (layout-facts l (unless-test 1 (layoutOk l) _ x e));
-      segments = segments-facts (unitOf l) (totalOf p) g (unless-test 3 (segmentsOk (unitOf l) (totalOf p) g) a x e3);
-      rest = unless-rest 3 (segmentsOk (unitOf l) (totalOf p) g) a x e3;
+      segments = segments-facts (unitOf l) (totalOf p) g (rw (unless-at-none 3 (segmentsFault (unitOf l) (totalOf p) g) a x e3));
+      rest = unless-at-rest 3 (segmentsFault (unitOf l) (totalOf p) g) a x e3;
     }
 
 -- the segment behind an answer

@@ -10,12 +10,14 @@ use lib.Seq.{take-append-seam}
 use borrow.Author.Tests.{leb-true, le-leb}
 use Rattle.base.specs.Scans.{among}
 use Rattle.base.proofs.Tests.{by-test}
-use Rattle.rules.specs.Answer.{Answer, answer, refused, numbered, unless, andThen}
-use Rattle.rules.specs.Layout.{layoutOk, productOf}
-use Rattle.rules.specs.Partitions.{partitionsOk, endOf, totalOf}
+use Rattle.base.proofs.Scans.{nothing}
+use Rattle.rules.specs.Answer.{Answer, answer, refused, numbered, unless, unlessAt, andThen}
+use Rattle.rules.specs.Layout.{productOf, unitOf}
+use Rattle.rules.specs.Partitions.{partitionsFault, endOf, totalOf}
+use Rattle.rules.specs.Segments.{segmentsFault}
 use Rattle.rules.specs.Stamp.{readStamp}
 use Rattle.rules.specs.Print.{fitting, stampPrint, printStamp, lengthPrinted, bufferAfter}
-use Rattle.rules.specs.Accepted.{accepted}
+use Rattle.rules.specs.Accepted.{acceptedStamps, accepted}
 use Rattle.rules.specs.Time.{timeOf, countAt}
 use Rattle.versions.specs.Versions.{Table, Accepted, lastIn, Hypothesis, Says, Agree, olderRefusesStamp, olderRefusesCount, olderRefusesTime}
 use Rattle.versions.specs.Versions.{readBy, printBy, timeBy, countBy, PrintedAnswer, shown, printed, Exception, Apart, olderPrint, newerPrint, NeverMisleads}
@@ -31,13 +33,13 @@ use Rattle.versions.proofs.Numbers.{numbers-differ}
 
 -- an accepted table passes the checks
 module _ (t : Table) (ok : Accepted t) where
-  through-two : {A : Type 0} (a : Answer A) → unless 1 (layoutOk (t .layout)) (unless 2 (partitionsOk (productOf (t .layout)) (t .partitions)) a) ≡ a
-  unfolding unless
-  through-two a = rw (ok .layout, ok .partitions)
+  pub through-two : {A : Type 0} (a : Answer A) → acceptedStamps (t .layout) (t .partitions) a ≡ a
+  unfolding unless unlessAt
+  through-two a = rw (ok .layout, nothing (partitionsFault (productOf (t .layout)) (t .partitions)) (ok .partitions))
 
   through-three : {A : Type 0} (a : Answer A) → accepted (t .layout) (t .partitions) (t .segments) a ≡ a
-  unfolding accepted unless
-  through-three a = rw (ok .layout, ok .partitions, ok .segments)
+  unfolding accepted unlessAt
+  through-three a = rw (through-two, nothing (segmentsFault (unitOf (t .layout)) (totalOf (t .partitions)) (t .segments)) (ok .segments))
 
   pub print-is : (e room : ℕ) → printBy t e room ≡ unless 12 (leb e (totalOf (t .partitions))) (fitting room (stampPrint (t .layout) (t .partitions) e))
   unfolding printStamp

@@ -3,6 +3,7 @@
 --     Layouts, Partitions, Segments               what one layout, kept partitions and kept segments give, row by row
 --     CountToTime, TimeToCount, Reading, Printing, Numbers     the four calls after their checks
 --     Kept, Demand3                               from the hypotheses to the rows, and the theorem
+--     Places                                      which refusals are alike, and which have no place
 --     Meets, WrittenOut, Needed, Witness           tables that are written out: nothing asked is idle, nor is the theorem empty
 pub mod Agreement
 pub mod Lists
@@ -17,6 +18,7 @@ pub mod Printing
 pub mod Numbers
 pub mod Kept
 pub mod Demand3
+pub mod Places
 pub mod Meets
 pub mod WrittenOut
 pub mod Needed

@@ -1,17 +1,17 @@
--- A list that begins with another, all of a list, and the last number that passes a test which fails from some number on.
+-- A list that begins with another, all of a list, one of a list, and the last number that passes a test which fails from some number on.
 use Prim.Native.Nat.{ℕ, _+_, _-_, _≤_, _<_}
 use native.Mathlib.Omega.{arith}
-use mathlib.Core.Path.{_≡_, sym, ap, _∙_}
-use mathlib.Core.Bool.{Bool, true, false}
-use mathlib.Core.List.{List}
+use mathlib.Core.Path.{_≡_, sym, ap, subst, _∙_}
+use mathlib.Core.Bool.{Bool, true, false, true≢false}
+use mathlib.Core.List.{List, [], _∷_}
 use mathlib.Core.Logic.{⊎-elim}
 use lib.ListN.{length, drop, getD, length-take, length-drop}
 use lib.Seq.{getD-take, getD-drop}
-use borrow.Author.Tests.{leb-true, leb-false}
-use lib.Dec.{leb}
-use Rattle.base.specs.Scans.{all, lastBelow}
+use borrow.Author.Tests.{leb-true, leb-false, eqb-true}
+use lib.Dec.{leb, eqb}
+use Rattle.base.specs.Scans.{all, among, lastBelow}
 use Rattle.base.proofs.Tests.{by-test}
-use Rattle.base.proofs.Lists.{all-getD}
+use Rattle.base.proofs.Lists.{all-head, all-tail, all-getD}
 use Rattle.base.proofs.Scans.{Last, last-or, last-is, last-none}
 use Rattle.versions.specs.Versions.{Begins}
 
@@ -27,6 +27,15 @@ pub all-after : (p : ℕ → Bool) (xs : List ℕ) (n i : ℕ) → all p (drop n
 all-after p xs n i h b l =
     let e : n + (i - n) ≡ i = omega arith in
     rw (getD-drop n xs (i - n) 0, e) at (all-getD p (drop n xs) (i - n) h (rw (length-drop n xs) (omega arith)))
+
+-- p holds of every number of a list, and so of one of them
+pub all-among : (p : ℕ → Bool) (ks : List ℕ) (k : ℕ) → all p ks ≡ true → among k ks ≡ true → p k ≡ true
+unfolding among
+all-among p [] k h m = absurd (true≢false (sym m))
+all-among p (j ∷ js) k h m =
+    by-test (eqb k j)
+    (λ t. subst (λ x. p x ≡ true) (sym (eqb-true k j t)) (all-head p j js h))
+    (λ f. all-among p js k (all-tail p j js h) (rw f at m))
 
 -- a test that fails from n on finds below m what it finds below n
 module _ (p q : ℕ → Bool) (n m : ℕ) (longer : n ≤ m) (same : (i : ℕ) → i < n → q i ≡ p i) (fails : (i : ℕ) → n ≤ i → i < m → q i ≡ false) where

@@ -194,7 +194,7 @@ fn main() {
                     let line = counts[segment] + times[segment] as u64 + rates[segment];
                     kernel.n * 1_000_003 + starts[row] + ends[row] + line
                 }
-                Err(refusal) => u64::from(refusal),
+                Err(refusal) => u64::from(refusal.number),
             }
         });
     }

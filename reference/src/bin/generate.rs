@@ -45,6 +45,9 @@ fn run() -> Result<(), String> {
     for (rule, times) in &tally.rules {
         eprintln!("{:>8} rule {}", times, rule);
     }
+    for (label, times) in &tally.places {
+        eprintln!("{:>8} place {}", times, label);
+    }
     eprintln!("{:>8} questions, {} answered, {} bad lines", tally.questions, tally.answered, tally.bad_lines);
     eprintln!("{:>8} kernel texts, {} answered", tally.kernels, tally.kernels_answered);
     for unexpected in &tally.unexpected {

@@ -3,7 +3,7 @@
 use super::tables::{msf, p, total, used};
 use crate::random::Random;
 use crate::script::Tables;
-use crate::Segments;
+use crate::{Layout, Segments};
 
 const E15: u64 = 1_000_000_000_000_000;
 const E12: u64 = 1_000_000_000_000;
@@ -24,6 +24,7 @@ pub const WRAPPING: &[(u64, u64)] = &[
 pub const LAYOUT_RULES: usize = 8;
 pub const PARTITION_RULES: usize = 8;
 pub const SEGMENT_RULES: usize = 17;
+pub const ROW_RULES: usize = 11;
 
 pub fn break_layout(random: &mut Random, tables: &mut Tables, rule: usize) {
     let layout = &mut tables.layout;
@@ -125,20 +126,61 @@ pub fn break_segments(random: &mut Random, tables: &mut Tables, rule: usize) {
         9 => count[last] = random.pick(&[total.saturating_add(1), total.saturating_mul(2), u64::MAX]),
         10 => time[late] = time[late.saturating_sub(1)],
         11 => time.swap(early, early + usize::from(rows > 1)),
-        12 => time[0] = random.pick(&[-LATEST - 1, -LATEST - 1, i64::MIN]),
-        13 => time[last] = random.pick(&[LATEST + 1, LATEST + 1, i64::MAX]),
+        12 => time[random.pick(&[0, 0, row])] = random.pick(&[-LATEST - 1, -LATEST - 1, i64::MIN]),
+        13 => {
+            let row = random.pick(&[last, row]);
+            let late = random.pick(&[LATEST + 1, LATEST + 1, i64::MAX - last as i64]);
+            (row..rows).for_each(|row| time[row] = late + row as i64);
+        }
         14 => rate[row] = random.pick(&[unit - 1, unit - 1, 0, 1]),
         15 => rate[row] = random.pick(&[E15 + 1, E15 + 1, u64::MAX]),
         _ => {
-            // A line that is too late by a nanosecond: the last one's, or the one before, which the last row overtakes.
-            let row = last - usize::from(rows > 1 && random.chance(50));
-            let end = if row == last { total } else { count[last] };
+            // A line that is too late by a nanosecond: the last one's, or one that the next row overtakes.
+            let row = random.pick(&[last, last, last.saturating_sub(1), row]);
+            let end = if row == last { total } else { count[row + 1] };
             let product = u128::from(rate[row]) * u128::from(end.saturating_sub(count[row]));
             let line = ((product + u128::from(unit) - 1) / u128::from(unit)).min(1 << 63);
             time[row] = (i128::from(LATEST) - line as i128 + 1) as i64;
-            if row < last {
-                time[last] = time[row].saturating_add(1);
+            for late in row + 1..rows {
+                time[late] = time[late - 1].saturating_add(1);
             }
         }
+    }
+}
+
+/// Sound tables in which a rule of rows can be broken alone: segments with ticks of two nanoseconds, and as many ticks behind
+/// the last. Lines are long enough to be too late for a rule about lines, and too short for all others.
+pub fn long(rows: usize, rule: usize) -> Tables {
+    let ticks = if rule < 9 { 5_000 } else { 10_000_000 };
+    let mut tables = Tables::new();
+    tables.layout = Layout { n: 1, moduli: [E15; 10], offsets: [0; 10], delimiter: 1 };
+    tables.start.push(0);
+    tables.end.push((rows as u64 + 1) * ticks);
+    for row in 0..rows as u64 {
+        tables.count.push(row * ticks + 1);
+        tables.time.push((3 * row * ticks) as i64 - 7_000);
+        tables.rate.push(2_000);
+    }
+    tables
+}
+
+/// Breaks one rule of the segments at one row of such tables; what cannot be broken at that row at another.
+pub fn break_row(tables: &mut Tables, rule: usize, row: usize) {
+    let total = total(tables);
+    let Tables { count, time, rate, .. } = tables;
+    let last = count.len() - 1;
+    let later = row.max(1);
+    match rule {
+        0 => count[later] = count[later - 1],
+        1 => count[later] = count[later - 1] - 1,
+        2 => count[last] = total + 1,
+        3 => time[later] = time[later - 1],
+        4 => time[later] = time[later - 1] - 1,
+        5 => time[row] = -LATEST - 1,
+        6 => (row..=last).for_each(|row| time[row] = LATEST + 1 + row as i64),
+        7 => rate[row] = 999,
+        8 => rate[row] = E15 + 1,
+        9 => rate[row.min(last - 1)] = E15,
+        _ => rate[last] = E15,
     }
 }

@@ -18,7 +18,7 @@ use writer::Writer;
 
 /// What the stored samples are made from.
 pub const STORED_SEED: u64 = 1;
-pub const STORED_COUNT: u64 = 36_000;
+pub const STORED_COUNT: u64 = 38_000;
 
 /// A script with a fixed part for every edge, then random questions up to the count. Plain text, but for a few tabs and
 /// returns; the last line has no byte 10.

@@ -5,7 +5,7 @@ use super::writer::Writer;
 use super::{doubles, texts};
 use crate::random::Random;
 use crate::script::{Question, Tables, MOST_LEN};
-use crate::{print_count, print_stamp, Segments};
+use crate::{print_count, print_stamp, Refusal, Segments};
 
 const LATEST: i64 = Segments::LATEST;
 
@@ -103,7 +103,7 @@ fn count(random: &mut Random, tables: &Tables) -> u64 {
 }
 
 /// A buffer's length, around the print's.
-fn len(random: &mut Random, print: Result<usize, u32>) -> usize {
+fn len(random: &mut Random, print: Result<usize, Refusal>) -> usize {
     let print = print.unwrap_or(8);
     let any = random.below(print + 8);
     let near = print + random.below(3) - 1;

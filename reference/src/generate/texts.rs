@@ -115,9 +115,13 @@ fn composed(random: &mut Random, layout: &Layout, count: u64) -> Vec<u8> {
         0 | 1 => fields.truncate(field + 1),
         2 | 3 if n > 1 => fields[field.max(1)].clear(),
         4 => fields[0].clear(),
-        5 => fields.push(random.pick(&["", "0", "5"]).to_string()),
-        6 => fields[field] = layout.offsets[field].saturating_sub(1).to_string(),
-        7 => fields[field] = random.near(E15 + 1_000).to_string(),
+        5 => {
+            for _ in 0..random.pick(&[1, 1, 2, 3]) {
+                fields.push(random.pick(&["", "0", "5", "007"]).to_string());
+            }
+        }
+        6 => fields[field] = zeros(random) + &layout.offsets[field].saturating_sub(1).to_string(),
+        7 => fields[field] = zeros(random) + &random.near(E15 + 1_000).to_string(),
         8 => fields[field] = digits(random),
         9 => fields[field].insert_str(0, &"0".repeat(random.below(20))),
         10 => fields[field] = random.magnitude(E15 + 1_000).to_string(),
@@ -135,6 +139,11 @@ fn composed(random: &mut Random, layout: &Layout, count: u64) -> Vec<u8> {
         text[at] = if random.chance(50) { random.pick(ALLOWED) } else { random.word() as u8 };
     }
     text
+}
+
+/// Sometimes a few.
+fn zeros(random: &mut Random) -> String {
+    "0".repeat(random.pick(&[0, 0, 1, 3]))
 }
 
 /// Fields between marks; a run of blanks is a mark only between digits.
@@ -191,7 +200,8 @@ fn front(random: &mut Random, rows: u64, right: u64) -> Vec<u8> {
         2 => format!("{}{}{}/", number, char::from(random.pick(b".:,-x\t\0")), any),
         3 => format!("{}/{}/", number, any),
         4 => format!("{}{}/{}", number, before, random.pick(&["x", "/", "."])),
-        5..=14 => format!("{}{}{}/{}", before, number, after, after),
+        5 | 6 => (0..random.below(7)).map(|_| random.pick(&['1', '0', ' ', ' ', '.', 'x'])).chain(['/']).collect(),
+        7..=14 => format!("{}{}{}/{}", before, number, after, after),
         _ => format!("{}/", number),
     }
     .into_bytes()

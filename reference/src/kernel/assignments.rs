@@ -30,7 +30,7 @@ pub fn read(reader: &mut Reader, found: &mut Found) -> Result<(), Refusal> {
         }
         line.skip(is_gap);
         if !line.0.is_empty() {
-            return Err(19);
+            return Err(Refusal::new(19));
         }
     }
     Ok(())
@@ -47,17 +47,17 @@ fn list<'a>(
     loop {
         line.skip(|byte| is_gap(byte) || *byte == b',');
         if line.0.is_empty() {
-            line = Line(reader.data_line(true)?.ok_or(19u32)?);
+            line = Line(reader.data_line(true)?.ok_or(Refusal::new(19))?);
             continue;
         }
         if line.eat(b')') {
-            return if row > 0 { Ok(line) } else { Err(19) };
+            return if row > 0 { Ok(line) } else { Err(Refusal::new(19)) };
         }
         let value = line.value()?;
         // Strings only, or numbers and dates only.
         let string = matches!(value, Value::String);
         if row > 0 && string != strings {
-            return Err(19);
+            return Err(Refusal::new(19));
         }
         strings = string;
         take(value, row)?;
@@ -91,7 +91,7 @@ impl<'a> Line<'a> {
     /// The name in front and its operator; true for `+=`.
     fn name(&mut self) -> Result<(&'a [u8], bool), Refusal> {
         let end = self.0.iter().position(|byte| matches!(byte, b' ' | b'\t' | b'(' | b')' | b',' | b'='));
-        let (mut name, rest) = self.0.split_at(end.ok_or(19u32)?);
+        let (mut name, rest) = self.0.split_at(end.ok_or(Refusal::new(19))?);
         self.0 = rest;
         let mut append = false;
         // A `+` directly before `=` is the operator's: no name ends in one.
@@ -105,7 +105,7 @@ impl<'a> Line<'a> {
             append = self.eat(b'+');
         }
         if !self.eat(b'=') || name.is_empty() || name.len() > LONGEST_NAME || name.ends_with(b"+") {
-            return Err(19);
+            return Err(Refusal::new(19));
         }
         Ok((name, append))
     }
@@ -124,7 +124,7 @@ impl<'a> Line<'a> {
                 Value::String
             }
             text => {
-                let (number, rest) = Decimal::read(text).ok_or(19u32)?;
+                let (number, rest) = Decimal::read(text).ok_or(Refusal::new(19))?;
                 self.0 = rest;
                 Value::Number(number)
             }
@@ -132,7 +132,7 @@ impl<'a> Line<'a> {
         if self.0.first().map_or(true, ends_value) {
             Ok(value)
         } else {
-            Err(19)
+            Err(Refusal::new(19))
         }
     }
 }
@@ -148,7 +148,7 @@ fn after_string(mut rest: &[u8]) -> Result<&[u8], Refusal> {
         rest = match rest {
             [b'\'', b'\'', rest @ ..] => rest,
             [b'\'', rest @ ..] if characters <= LONGEST_STRING => return Ok(rest),
-            [b'\'', ..] | [] => return Err(19),
+            [b'\'', ..] | [] => return Err(Refusal::new(19)),
             [_, rest @ ..] => rest,
         };
         characters += 1;

@@ -82,7 +82,7 @@ impl Found {
             _ => return Ok(None),
         };
         if append || self.given[variable as usize] {
-            return Err(19);
+            return Err(Refusal::new(19));
         }
         self.given[variable as usize] = true;
         Ok(Some(variable))
@@ -97,22 +97,23 @@ impl Found {
         };
         // "with several values outside the five lists"
         if row > 0 && !matches!(variable, Moduli | Offsets | Coefficients | Starts | Ends) {
-            return Err(19);
+            return Err(Refusal::new(19));
         }
         // "or, but for the ID, one that is no number"
         let number = match value {
             _ if variable == KernelId => return Ok(()),
             Value::Number(number) => number,
-            _ => return Err(19),
+            _ => return Err(Refusal::new(19)),
         };
         match variable {
             KernelId => {}
             // "another type or time system"
             DataType => {
-                number.unsigned(0).filter(|&number| number == 1).ok_or(19u32)?;
+                number.unsigned(0).filter(|&number| number == 1).ok_or(Refusal::new(19))?;
             }
             TimeSystem => {
-                self.time_system = number.unsigned(0).filter(|&number| number == 1 || number == 2).ok_or(19u32)?;
+                self.time_system =
+                    number.unsigned(0).filter(|&number| number == 1 || number == 2).ok_or(Refusal::new(19))?;
             }
             Fields => self.n = self.whole(number),
             Delimiter => self.delimiter = self.whole(number),

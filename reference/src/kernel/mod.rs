@@ -36,16 +36,16 @@ pub fn read_kernel(
     let mut reader = Reader::new(text);
     // "first line `KPL/SCLK`"
     if reader.line() != Some(&b"KPL/SCLK"[..]) {
-        return Err(18);
+        return Err(Refusal::new(18));
     }
     let mut found = Found::new(clock);
     assignments::read(&mut reader, &mut found)?;
     // "a name missing"
     if !found.complete() {
-        return Err(19);
+        return Err(Refusal::new(19));
     }
     if !found.exact {
-        return Err(20);
+        return Err(Refusal::new(20));
     }
     check(&found)?;
     if moduli.len() < found.moduli.len()
@@ -56,7 +56,7 @@ pub fn read_kernel(
         || times.len() < found.times.len()
         || rates.len() < found.rates.len()
     {
-        return Err(16);
+        return Err(Refusal::new(16));
     }
     fill(moduli, &found.moduli);
     fill(offsets, &found.offsets);
@@ -75,9 +75,9 @@ pub fn read_kernel(
 }
 
 /// "then 1 (also lists not n long), 2, 3 (also not in threes)". Lists of counts, times and rates that are not in threes
-/// are not of one length.
+/// are not of one length: the place is the shortest.
 fn check(found: &Found) -> Result<(), Refusal> {
-    let layout = layout(found).ok_or(1u32)?;
+    let layout = layout(found).ok_or(Refusal::new(1))?;
     let clock = layout.check()?;
     let total = Partitions { start: &found.starts, end: &found.ends }.check(clock.p)?;
     Segments { count: &found.counts, time: &found.times, rate: &found.rates }.check(clock.msf, total)

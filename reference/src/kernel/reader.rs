@@ -69,7 +69,7 @@ impl<'a> Reader<'a> {
             // Not `all`: to go through the whole line is quicker.
             let good = line.iter().fold(true, |good, byte| good & is_data(byte));
             if !good || line.len() > LONGEST_LINE {
-                return Err(19);
+                return Err(Refusal::new(19));
             }
             if front < line.len() {
                 return Ok(Some(&line[front..]));

@@ -7,7 +7,7 @@ use super::{
 };
 use crate::{
     back, count_at, forward, print_count, print_stamp, read_kernel, read_message, read_stamp, read_text, steps_back,
-    time_of,
+    time_of, Refusal,
 };
 
 /// Answers a script line by line.
@@ -105,11 +105,11 @@ fn add<T>(list: &mut Vec<T>, value: T) -> bool {
     room
 }
 
-fn bits(result: Result<f64, u32>) -> Result<String, u32> {
+fn bits(result: Result<f64, Refusal>) -> Result<String, Refusal> {
     result.map(|double| format!("{:016x}", double.to_bits()))
 }
 
-fn plain<T: std::fmt::Display>(output: &mut Vec<u8>, result: Result<T, u32>) -> io::Result<()> {
+fn plain<T: std::fmt::Display>(output: &mut Vec<u8>, result: Result<T, Refusal>) -> io::Result<()> {
     match result {
         Ok(answer) => writeln!(output, "ok {}", answer),
         Err(refusal) => writeln!(output, "refused {}", refusal),
@@ -117,7 +117,7 @@ fn plain<T: std::fmt::Display>(output: &mut Vec<u8>, result: Result<T, u32>) -> 
 }
 
 /// With the whole buffer afterwards.
-fn printed(output: &mut Vec<u8>, result: Result<usize, u32>, lent: &[u8]) -> io::Result<()> {
+fn printed(output: &mut Vec<u8>, result: Result<usize, Refusal>, lent: &[u8]) -> io::Result<()> {
     match result {
         Ok(len) => write!(output, "ok {} ", len)?,
         Err(refusal) => write!(output, "refused {} ", refusal)?,

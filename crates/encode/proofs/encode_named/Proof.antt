@@ -3,9 +3,6 @@ use borrow.Author.Needs.{needs}
 use Rattle.encode.proofs.encode_named.Statement.{statement}
 use Rattle.encode.proofs.encode_named.Tie as tie
 
-add-t17 : tie.Need-add-t17
-add-t17 c = encoded-fits _ _ _ _ _ (c .before .before .is-within .ensures) _ (c .before .before .before .before .before .before .before .before .before .pre) (search needs) (c .lengths-before .ensures) (c .before .if3 .taken)
-
 pub encode-named-spec : {M : Type 1} → statement M
 encode-named-spec =
     tie.close
@@ -19,6 +16,6 @@ encode-named-spec =
     (λ c κs. search needs)
     (λ c κs. search needs)
     (λ c. search (from-start, needs))
-    add-t17
+    (λ c. encoded-fits _ _ _ _ _ (c .before .before .is-within .ensures) _ (c .before .before .before .before .before .before .before .before .before .pre) (search needs) (c .lengths-before .ensures) (c .before .if3 .taken))
     (λ c. search (named-inside, needs))
     (λ c. search (named-outside, needs)))

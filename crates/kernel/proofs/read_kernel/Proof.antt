@@ -1,119 +1,86 @@
 use borrow.Author.Needs.{needs}
-use Rattle.kernel.proofs.Reading.{read-given, read-refused, filled}
+use Rattle.kernel.proofs.Reading.{read-given, read-refused}
 use Rattle.kernel.proofs.read_kernel.Statement.{statement}
 use Rattle.kernel.proofs.read_kernel.Tie as tie
 
--- src/lib.rt:45:31
 slice-aggregate-gather : tie.Need-slice-aggregate-gather
 slice-aggregate-gather c = search needs
 
--- src/lib.rt:45:40
 slice-aggregate-gather-2 : tie.Need-slice-aggregate-gather-2
 slice-aggregate-gather-2 c = search needs
 
--- src/lib.rt:45:49
 slice-aggregate-gather-3 : tie.Need-slice-aggregate-gather-3
 slice-aggregate-gather-3 c = search needs
 
--- src/lib.rt:45:58
 slice-aggregate-gather-4 : tie.Need-slice-aggregate-gather-4
 slice-aggregate-gather-4 c = search needs
 
--- src/lib.rt:45:67
 slice-aggregate-gather-5 : tie.Need-slice-aggregate-gather-5
 slice-aggregate-gather-5 c = search needs
 
--- src/lib.rt:45:76
 slice-aggregate-gather-6 : tie.Need-slice-aggregate-gather-6
 slice-aggregate-gather-6 c = search needs
 
--- src/lib.rt:45:85
 slice-aggregate-gather-7 : tie.Need-slice-aggregate-gather-7
 slice-aggregate-gather-7 c = search needs
 
--- src/lib.rt:45:11
 gather-requires : tie.Need-gather-requires
 gather-requires c κs = search needs
 
--- src/lib.rt:46:31
 enum-known-k : tie.Need-enum-known-k
 enum-known-k c = search needs
 
--- src/lib.rt:47:29
 enum-known-g : tie.Need-enum-known-g
 enum-known-g c = search needs
 
--- src/lib.rt:48:16
 slice-aggregate-give-gathered : tie.Need-slice-aggregate-give-gathered
 slice-aggregate-give-gathered c = search needs
 
--- src/lib.rt:48:29
 slice-aggregate-give-gathered-2 : tie.Need-slice-aggregate-give-gathered-2
 slice-aggregate-give-gathered-2 c = search needs
 
--- src/lib.rt:48:43
 slice-aggregate-give-gathered-3 : tie.Need-slice-aggregate-give-gathered-3
 slice-aggregate-give-gathered-3 c = search needs
 
--- src/lib.rt:48:56
 slice-aggregate-give-gathered-4 : tie.Need-slice-aggregate-give-gathered-4
 slice-aggregate-give-gathered-4 c = search needs
 
--- src/lib.rt:48:67
 slice-aggregate-give-gathered-5 : tie.Need-slice-aggregate-give-gathered-5
 slice-aggregate-give-gathered-5 c = search needs
 
--- src/lib.rt:48:80
 slice-aggregate-give-gathered-6 : tie.Need-slice-aggregate-give-gathered-6
 slice-aggregate-give-gathered-6 c = search needs
 
--- src/lib.rt:48:92
 slice-aggregate-give-gathered-7 : tie.Need-slice-aggregate-give-gathered-7
 slice-aggregate-give-gathered-7 c = search needs
 
--- src/lib.rt:47:35
-give-gathered-requires : tie.Need-give-gathered-requires
-give-gathered-requires c κs = (
-  c .before .before .before .before .before .before .before .before .before .before .before .before .before .before .before .before .before .before .before .before .before .before .before .before .gather .ensures .1 .0,
-  filled (c .before .before .before .before .before .before .before .before .before .before .before .before .before .before .before .before .before .before .before .before .before .before .before .before .gather .result) (c .before .before .before .before .before .before .before .before .before .before .before .before .before .before .before .g .given .0 .0) (c .before .before .before .before .before .before .before .before .before .before .before .before .before .before .before .g .given .1) (c .before .before .before .before .before .before .before .before .before .before .before .before .before .before .before .before .before .before .before .before .before .before .before .before .gather .ensures .1 .1),
-)
-
--- src/lib.rt:23:1
 returns : tie.Need-returns
-returns c = read-refused _ _ _ _ _ _ _ _ _ _ (c .before .before .before .before .before .before .before .before .before .before .gather .result) (record { sfits = c .before .before .before .before .before .before .before .before .before .before .before .before .before .before .before .before .before .before .before .before .before .before .before .before .before .good .1 .0 }) (c .before .before .before .before .before .before .before .before .before .before .gather .ensures .0) (c .before .k .given .0 .0) (c .before .k .given .1)
+returns c = read-refused _ _ _ _ _ _ _ _ _ _ (c .before .before .before .before .before .before .before .before .before .before .gather .result) (record { sfits = c .before .before .before .before .before .before .before .before .before .before .before .before .before .before .before .before .before .before .before .before .before .before .before .before .before .good .1 .0 }) (c .before .before .before .before .before .before .before .before .before .before .gather .ensures) (c .before .k .given .0 .0) (c .before .k .given .1)
 
--- src/lib.rt:23:1
 same-length : tie.Need-same-length
 same-length c = c .before .before .before .before .before .before .before .before .before .before .before .before .moduli .given
 
--- src/lib.rt:23:1
 same-length-2 : tie.Need-same-length-2
 same-length-2 c = c .before .before .before .before .before .before .before .before .before .before .offsets .given
 
--- src/lib.rt:23:1
 same-length-3 : tie.Need-same-length-3
 same-length-3 c = c .before .before .before .before .before .before .before .before .starts .given
 
--- src/lib.rt:23:1
 same-length-4 : tie.Need-same-length-4
 same-length-4 c = c .before .before .before .before .before .before .ends .given
 
--- src/lib.rt:23:1
 same-length-5 : tie.Need-same-length-5
 same-length-5 c = c .before .before .before .before .counts .given
 
--- src/lib.rt:23:1
 same-length-6 : tie.Need-same-length-6
 same-length-6 c = c .before .before .times .given
 
--- src/lib.rt:23:1
 same-length-7 : tie.Need-same-length-7
 same-length-7 c = c .before .rates .given
 
--- src/lib.rt:23:1
 returns-2 : tie.Need-returns-2
 returns-2 c =
-    read-given _ _ _ _ _ _ _ _ _ _ (c .before .before .before .before .before .before .before .before .before .before .before .before .before .before .before .before .before .before .before .before .before .before .before .before .before .before .before .before .before .before .before .before .before .before .before .before .before .before .gather .result) (record { sfits = c .before .before .before .before .before .before .before .before .before .before .before .before .before .before .before .before .before .before .before .before .before .before .before .before .before .before .before .before .before .before .before .before .before .before .before .before .before .before .before .before .before .before .before .before .before .before .before .before .before .before .before .before .before .good .1 .0 }) (c .before .before .before .before .before .before .before .before .before .before .before .before .before .before .before .before .before .before .before .before .before .before .before .before .before .before .before .before .before .before .before .before .before .before .before .before .before .before .gather .ensures .0) (c .before .before .before .before .before .before .before .before .before .before .before .before .before .before .before .before .before .before .before .before .before .before .before .before .before .before .before .before .before .g .given .0 .0) (c .before .before .before .before .before .before .before .before .before .before .before .before .before .before .before .before .before .before .before .before .before .before .before .before .before .before .before .before .before .g .given .1)
+    read-given _ _ _ _ _ _ _ _ _ _ (c .before .before .before .before .before .before .before .before .before .before .before .before .before .before .before .before .before .before .before .before .before .before .before .before .before .before .before .before .before .before .before .before .before .before .before .before .before .before .gather .result) (record { sfits = c .before .before .before .before .before .before .before .before .before .before .before .before .before .before .before .before .before .before .before .before .before .before .before .before .before .before .before .before .before .before .before .before .before .before .before .before .before .before .before .before .before .before .before .before .before .before .before .before .before .before .before .before .before .good .1 .0 }) (c .before .before .before .before .before .before .before .before .before .before .before .before .before .before .before .before .before .before .before .before .before .before .before .before .before .before .before .before .before .before .before .before .before .before .before .before .before .before .gather .ensures) (c .before .before .before .before .before .before .before .before .before .before .before .before .before .before .before .before .before .before .before .before .before .before .before .before .before .before .before .before .before .g .given .0 .0) (c .before .before .before .before .before .before .before .before .before .before .before .before .before .before .before .before .before .before .before .before .before .before .before .before .before .before .before .before .before .g .given .1)
     (c .before .before .before .before .before .before .before .before .before .before .before .before .before .give-gathered .result) _ (c .before .before .before .before .before .before .before .before .before .before .before .before .before .give-gathered .ensures)
 
 pub read-kernel-spec : {M : Type 1} → statement M
@@ -137,7 +104,7 @@ read-kernel-spec =
     slice-aggregate-give-gathered-5
     slice-aggregate-give-gathered-6
     slice-aggregate-give-gathered-7
-    give-gathered-requires
+    (λ c κs. search needs)
     returns
     same-length
     same-length-2

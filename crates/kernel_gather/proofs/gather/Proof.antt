@@ -1,91 +1,67 @@
 use borrow.Author.Needs.{needs}
 use Rattle.kernel_gather.proofs.First.{cut, cut-room, empty-refused, first-refused, first-clock}
-use Rattle.kernel_gather.proofs.Gathering.{refused-within}
 use Rattle.kernel_gather.proofs.gather.Statement.{statement}
 use Rattle.kernel_gather.proofs.gather.Tie as tie
 
--- src/lib.rt:59:9
 returns : tie.Need-returns
-returns c = (empty-refused _ _ _ _ _ _ _ _ _ (c .if1 .taken), (c .before .before .before .before .before .before .before .before .pre, refused-within _))
+returns c = empty-refused _ _ _ _ _ _ _ _ _ (c .if1 .taken)
 
--- src/lib.rt:61:9
 line-within-requires : tie.Need-line-within-requires
 line-within-requires c κs = search needs
 
--- src/lib.rt:63:14
 slice-aggregate-same : tie.Need-slice-aggregate-same
 slice-aggregate-same c = cut _ _ (c .before .line-within .ensures .1 .1)
 
--- src/lib.rt:63:28
 slice-aggregate-same-2 : tie.Need-slice-aggregate-same-2
 slice-aggregate-same-2 c = search needs
 
--- src/lib.rt:63:9
 same-requires : tie.Need-same-requires
 same-requires c κs = search needs
 
--- src/lib.rt:64:9
 returns-2 : tie.Need-returns-2
-returns-2 c = (
-  first-refused _ _ _ _ _ _ _ _ _ (c .before .before .before .before .before .if1 .left) (c .before .before .before .before .line-within .result) (c .before .before .before .before .line-within .ensures .0) (c .before .same .result) (c .before .same .ensures) (c .if2 .taken),
-  (c .before .before .before .before .before .before .before .before .before .before .before .before .before .pre, refused-within _),
-)
+returns-2 c =
+    first-refused _ _ _ _ _ _ _ _ _ (c .before .before .before .before .before .if1 .left) (c .before .before .before .before .line-within .result) (c .before .before .before .before .line-within .ensures .0) (c .before .same .result) (c .before .same .ensures) (c .if2 .taken)
 
--- src/lib.rt:67:33
 slice-aggregate-clock-digits : tie.Need-slice-aggregate-clock-digits
 slice-aggregate-clock-digits c = search needs
 
--- src/lib.rt:67:9
 clock-digits-requires : tie.Need-clock-digits-requires
 clock-digits-requires c κs = search needs
 
--- src/lib.rt:69:27
 array-share-prefix-digits : tie.Need-array-share-prefix-digits
 array-share-prefix-digits c = search needs
 
--- src/lib.rt:69:27
 slice-aggregate-gather-from : tie.Need-slice-aggregate-gather-from
 slice-aggregate-gather-from c = cut-room _ _ _ (c .before .before .clock-digits .ensures .1) (search needs)
 
--- src/lib.rt:68:5
 gather-from-requires : tie.Need-gather-from-requires
 gather-from-requires c κs = search needs
 
--- src/lib.rt:42:1
 same-length : tie.Need-same-length
 same-length c = c .before .before .before .before .before .before .before .before .before .before .before .before .moduli .given
 
--- src/lib.rt:42:1
 same-length-2 : tie.Need-same-length-2
 same-length-2 c = c .before .before .before .before .before .before .before .before .before .before .offsets .given
 
--- src/lib.rt:42:1
 same-length-3 : tie.Need-same-length-3
 same-length-3 c = c .before .before .before .before .before .before .before .before .starts .given
 
--- src/lib.rt:42:1
 same-length-4 : tie.Need-same-length-4
 same-length-4 c = c .before .before .before .before .before .before .ends .given
 
--- src/lib.rt:42:1
 same-length-5 : tie.Need-same-length-5
 same-length-5 c = c .before .before .before .before .counts .given
 
--- src/lib.rt:42:1
 same-length-6 : tie.Need-same-length-6
 same-length-6 c = c .before .before .times .given
 
--- src/lib.rt:42:1
 same-length-7 : tie.Need-same-length-7
 same-length-7 c = c .before .rates .given
 
--- src/lib.rt:42:1
 returns-3 : tie.Need-returns-3
-returns-3 c = (
-  first-clock _ _ _ _ _ _ _ _ _ _ (record { sfits = c .before .before .before .before .before .before .before .before .before .before .before .before .before .before .before .before .before .before .before .before .before .before .before .before .before .before .before .before .before .before .before .before .before .before .before .before .before .before .good .1 .0 }) (c .before .before .before .before .before .before .before .before .before .before .before .before .before .before .before .before .before .before .before .before .before .before .before .before .before .before .before .before .before .before .if1 .left) (c .before .before .before .before .before .before .before .before .before .before .before .before .before .before .before .before .before .before .before .before .before .before .before .before .before .before .before .before .before .line-within .result) (c .before .before .before .before .before .before .before .before .before .before .before .before .before .before .before .before .before .before .before .before .before .before .before .before .before .before .before .before .before .line-within .ensures .0) (c .before .before .before .before .before .before .before .before .before .before .before .before .before .before .before .before .before .before .before .before .before .before .before .before .before .before .same .result) (c .before .before .before .before .before .before .before .before .before .before .before .before .before .before .before .before .before .before .before .before .before .before .before .before .before .before .same .ensures)
-      (c .before .before .before .before .before .before .before .before .before .before .before .before .before .gather-from .result) (c .before .before .before .before .before .before .before .before .before .before .before .before .before .before .before .before .before .before .before .before .before .before .before .before .before .if2 .left) (c .before .before .before .before .before .before .before .before .before .before .before .before .before .before .before .before .before .before .before .before .before .before .before .clock-digits .ensures .0) (c .before .before .before .before .before .before .before .before .before .before .before .before .before .gather-from .ensures .0),
-  c .before .before .before .before .before .before .before .before .before .before .before .before .before .gather-from .ensures .1,
-)
+returns-3 c =
+    first-clock _ _ _ _ _ _ _ _ _ _ (record { sfits = c .before .before .before .before .before .before .before .before .before .before .before .before .before .before .before .before .before .before .before .before .before .before .before .before .before .before .before .before .before .before .before .before .before .before .before .before .before .before .good .1 .0 }) (c .before .before .before .before .before .before .before .before .before .before .before .before .before .before .before .before .before .before .before .before .before .before .before .before .before .before .before .before .before .before .if1 .left) (c .before .before .before .before .before .before .before .before .before .before .before .before .before .before .before .before .before .before .before .before .before .before .before .before .before .before .before .before .before .line-within .result) (c .before .before .before .before .before .before .before .before .before .before .before .before .before .before .before .before .before .before .before .before .before .before .before .before .before .before .before .before .before .line-within .ensures .0) (c .before .before .before .before .before .before .before .before .before .before .before .before .before .before .before .before .before .before .before .before .before .before .before .before .before .before .same .result) (c .before .before .before .before .before .before .before .before .before .before .before .before .before .before .before .before .before .before .before .before .before .before .before .before .before .before .same .ensures)
+    (c .before .before .before .before .before .before .before .before .before .before .before .before .before .gather-from .result) (c .before .before .before .before .before .before .before .before .before .before .before .before .before .before .before .before .before .before .before .before .before .before .before .before .before .if2 .left) (c .before .before .before .before .before .before .before .before .before .before .before .before .before .before .before .before .before .before .before .before .before .before .before .clock-digits .ensures .0) (c .before .before .before .before .before .before .before .before .before .before .before .before .before .gather-from .ensures)
 
 pub gather-spec : {M : Type 1} → statement M
 gather-spec =

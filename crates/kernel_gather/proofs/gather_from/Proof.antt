@@ -1,72 +1,54 @@
 use borrow.Author.Needs.{needs}
 use mathlib.Core.Path.{refl}
-use Rattle.kernel_gather.proofs.Gathering.{form-refused, heading-refused, settled-is, settled-within, refused-within}
+use Rattle.kernel_gather.proofs.Gathering.{form-refused, heading-refused, settled-is}
 use Rattle.kernel_gather.proofs.gather_from.Statement.{statement}
 use Rattle.kernel_gather.proofs.gather_from.Tie as tie
 
--- src/lib.rt:92:9
 find-requires : tie.Need-find-requires
 find-requires c κs = search needs
 
--- src/lib.rt:94:9
 returns : tie.Need-returns
-returns c = (form-refused _ _ _ _ _ _ _ _ _ _ _ refl (c .before .before .find .result) (c .before .before .find .ensures) (c .if1 .taken), (c .before .before .before .before .before .before .before .before .before .before .before .pre .1, refused-within _))
+returns c = form-refused _ _ _ _ _ _ _ _ _ _ _ refl (c .before .before .find .result) (c .before .before .find .ensures) (c .if1 .taken)
 
--- src/lib.rt:97:9
 read-heading-requires : tie.Need-read-heading-requires
 read-heading-requires c κs = search needs
 
--- src/lib.rt:99:9
 returns-2 : tie.Need-returns-2
-returns-2 c = (
-  heading-refused _ _ _ _ _ _ _ _ _ _ _ refl (c .before .before .before .before .before .before .find .result) (c .before .before .before .before .before .before .find .ensures) (c .before .before .before .before .if1 .left) (c .before .before .read-heading .result)
-      (c .before .before .read-heading .ensures) (c .if2 .taken),
-  (c .before .before .before .before .before .before .before .before .before .before .before .before .before .before .before .pre .1, refused-within _),
-)
+returns-2 c =
+    heading-refused _ _ _ _ _ _ _ _ _ _ _ refl (c .before .before .before .before .before .before .find .result) (c .before .before .before .before .before .before .find .ensures) (c .before .before .before .before .if1 .left) (c .before .before .read-heading .result)
+    (c .before .before .read-heading .ensures) (c .if2 .taken)
 
--- src/lib.rt:101:9
 read-lists-requires : tie.Need-read-lists-requires
 read-lists-requires c κs = search needs
 
--- src/lib.rt:104:5
 settle-requires : tie.Need-settle-requires
 settle-requires c κs = search needs
 
--- src/lib.rt:74:1
 same-length : tie.Need-same-length
 same-length c = c .before .before .before .before .before .before .before .before .before .before .before .before .before .moduli .given
 
--- src/lib.rt:74:1
 same-length-2 : tie.Need-same-length-2
 same-length-2 c = c .before .before .before .before .before .before .before .before .before .before .before .offsets .given
 
--- src/lib.rt:74:1
 same-length-3 : tie.Need-same-length-3
 same-length-3 c = c .before .before .before .before .before .before .before .before .before .starts .given
 
--- src/lib.rt:74:1
 same-length-4 : tie.Need-same-length-4
 same-length-4 c = c .before .before .before .before .before .before .before .ends .given
 
--- src/lib.rt:74:1
 same-length-5 : tie.Need-same-length-5
 same-length-5 c = c .before .before .before .before .before .counts .given
 
--- src/lib.rt:74:1
 same-length-6 : tie.Need-same-length-6
 same-length-6 c = c .before .before .before .times .given
 
--- src/lib.rt:74:1
 same-length-7 : tie.Need-same-length-7
 same-length-7 c = c .before .before .rates .given
 
--- src/lib.rt:74:1
 returns-3 : tie.Need-returns-3
-returns-3 c = (
-  settled-is _ _ _ _ _ _ _ _ _ _ _ refl (c .before .before .before .before .before .before .before .before .before .before .before .before .before .before .before .before .before .before .before .before .before .before .before .before .before .before .before .before .find .result) (c .before .before .before .before .before .before .before .before .before .before .before .before .before .before .before .before .before .before .before .before .before .before .before .before .before .before .before .before .find .ensures) (c .before .before .before .before .before .before .before .before .before .before .before .before .before .before .before .before .before .before .before .before .before .before .before .before .before .before .if1 .left) (c .before .before .before .before .before .before .before .before .before .before .before .before .before .before .before .before .before .before .before .before .before .before .before .before .read-heading .result)
-      (c .before .before .before .before .before .before .before .before .before .before .before .before .before .before .before .before .before .before .before .before .before .before .before .before .read-heading .ensures) (c .before .before .before .before .before .before .before .before .before .before .before .before .before .before .before .before .before .before .before .before .before .before .if2 .left) (c .before .before .before .before .before .before .before .before .before .before .before .before .before .before .read-lists .result) (c .before .before .before .before .before .before .before .before .before .before .before .before .before .before .read-lists .ensures) (c .settle .result) (c .settle .ensures),
-  (c .before .before .before .before .before .before .before .before .before .before .before .before .before .before .read-lists .ensures .room, settled-within _ _ _ (c .settle .ensures) (c .before .before .before .before .before .before .before .before .before .before .before .before .before .before .read-lists .ensures .filled)),
-)
+returns-3 c =
+    settled-is _ _ _ _ _ _ _ _ _ _ _ refl (c .before .before .before .before .before .before .before .before .before .before .before .before .before .before .before .before .before .before .before .before .before .before .before .before .before .before .before .before .find .result) (c .before .before .before .before .before .before .before .before .before .before .before .before .before .before .before .before .before .before .before .before .before .before .before .before .before .before .before .before .find .ensures) (c .before .before .before .before .before .before .before .before .before .before .before .before .before .before .before .before .before .before .before .before .before .before .before .before .before .before .if1 .left) (c .before .before .before .before .before .before .before .before .before .before .before .before .before .before .before .before .before .before .before .before .before .before .before .before .read-heading .result)
+    (c .before .before .before .before .before .before .before .before .before .before .before .before .before .before .before .before .before .before .before .before .before .before .before .before .read-heading .ensures) (c .before .before .before .before .before .before .before .before .before .before .before .before .before .before .before .before .before .before .before .before .before .before .if2 .left) (c .before .before .before .before .before .before .before .before .before .before .before .before .before .before .read-lists .result) (c .before .before .before .before .before .before .before .before .before .before .before .before .before .before .read-lists .ensures) (c .settle .result) (c .settle .ensures)
 
 pub gather-from-spec : {M : Type 1} → statement M
 gather-from-spec =

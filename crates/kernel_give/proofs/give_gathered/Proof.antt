@@ -1,76 +1,70 @@
 use borrow.Author.Needs.{needs}
-use Rattle.kernel_give.proofs.Given.{cut}
+use Rattle.kernel_give.proofs.Given.{cut, all-there}
 use Rattle.kernel_give.proofs.give_gathered.Statement.{statement}
 use Rattle.kernel_give.proofs.give_gathered.Tie as tie
 
--- src/lib.rt:84:37
 slice-aggregate-give : tie.Need-slice-aggregate-give
-slice-aggregate-give c = cut _ _ _ (c .before .before .before .before .before .before .before .before .before .before .before .before .before .pre .1 .moduli) (c .before .before .before .before .before .before .before .before .before .before .before .before .before .pre .0 .moduli)
+slice-aggregate-give c = cut _ _ _ (c .before .before .before .before .before .before .before .smaller4 .ensures)
 
--- src/lib.rt:84:55
 slice-aggregate-give-2 : tie.Need-slice-aggregate-give-2
-slice-aggregate-give-2 c = cut _ _ _ (c .before .before .before .before .before .before .before .before .before .before .before .before .before .before .before .pre .1 .offsets) (c .before .before .before .before .before .before .before .before .before .before .before .before .before .before .before .pre .0 .offsets)
+slice-aggregate-give-2 c = cut _ _ _ (c .before .before .before .before .before .before .before .before .smaller5 .ensures)
 
--- src/lib.rt:84:74
 slice-aggregate-give-3 : tie.Need-slice-aggregate-give-3
-slice-aggregate-give-3 c = cut _ _ _ (c .before .before .before .before .before .before .before .before .before .before .before .before .before .before .before .before .before .pre .1 .starts) (c .before .before .before .before .before .before .before .before .before .before .before .before .before .before .before .before .before .pre .0 .starts)
+slice-aggregate-give-3 c = cut _ _ _ (c .before .before .before .before .before .before .before .before .before .smaller6 .ensures)
 
--- src/lib.rt:84:92
 slice-aggregate-give-4 : tie.Need-slice-aggregate-give-4
-slice-aggregate-give-4 c = cut _ _ _ (c .before .before .before .before .before .before .before .before .before .before .before .before .before .before .before .before .before .before .before .pre .1 .ends) (c .before .before .before .before .before .before .before .before .before .before .before .before .before .before .before .before .before .before .before .pre .0 .ends)
+slice-aggregate-give-4 c = cut _ _ _ (c .before .before .before .before .before .before .before .before .before .before .smaller7 .ensures)
 
--- src/lib.rt:85:15
 slice-aggregate-give-5 : tie.Need-slice-aggregate-give-5
-slice-aggregate-give-5 c = cut _ _ _ (c .before .before .before .before .before .before .before .before .before .before .before .before .before .before .before .before .before .before .before .before .before .pre .1 .counts) (c .before .before .before .before .before .before .before .before .before .before .before .before .before .before .before .before .before .before .before .before .before .pre .0 .counts)
+slice-aggregate-give-5 c = cut _ _ _ (c .before .before .before .before .before .before .before .before .before .before .before .smaller8 .ensures)
 
--- src/lib.rt:85:33
 slice-aggregate-give-6 : tie.Need-slice-aggregate-give-6
-slice-aggregate-give-6 c = cut _ _ _ (c .before .before .before .before .before .before .before .before .before .before .before .before .before .before .before .before .before .before .before .before .before .before .before .pre .1 .times) (c .before .before .before .before .before .before .before .before .before .before .before .before .before .before .before .before .before .before .before .before .before .before .before .pre .0 .times)
+slice-aggregate-give-6 c = cut _ _ _ (c .before .before .before .before .before .before .before .before .before .before .before .before .smaller9 .ensures)
 
--- src/lib.rt:85:50
 slice-aggregate-give-7 : tie.Need-slice-aggregate-give-7
-slice-aggregate-give-7 c = cut _ _ _ (c .before .before .before .before .before .before .before .before .before .before .before .before .before .before .before .before .before .before .before .before .before .before .before .before .before .pre .1 .rates) (c .before .before .before .before .before .before .before .before .before .before .before .before .before .before .before .before .before .before .before .before .before .before .before .before .before .pre .0 .rates)
+slice-aggregate-give-7 c = cut _ _ _ (c .before .before .before .before .before .before .before .before .before .before .before .before .before .smaller10 .ensures)
 
--- src/lib.rt:83:5
-give-requires : tie.Need-give-requires
-give-requires c κs = search needs
-
--- src/lib.rt:54:1
 same-length : tie.Need-same-length
 same-length c = c .before .before .before .before .before .before .before .before .before .before .before .before .moduli .given
 
--- src/lib.rt:54:1
 same-length-2 : tie.Need-same-length-2
 same-length-2 c = c .before .before .before .before .before .before .before .before .before .before .offsets .given
 
--- src/lib.rt:54:1
 same-length-3 : tie.Need-same-length-3
 same-length-3 c = c .before .before .before .before .before .before .before .before .starts .given
 
--- src/lib.rt:54:1
 same-length-4 : tie.Need-same-length-4
 same-length-4 c = c .before .before .before .before .before .before .ends .given
 
--- src/lib.rt:54:1
 same-length-5 : tie.Need-same-length-5
 same-length-5 c = c .before .before .before .before .counts .given
 
--- src/lib.rt:54:1
 same-length-6 : tie.Need-same-length-6
 same-length-6 c = c .before .before .times .given
 
--- src/lib.rt:54:1
 same-length-7 : tie.Need-same-length-7
 same-length-7 c = c .before .rates .given
 
--- src/lib.rt:54:1
 returns : tie.Need-returns
-returns c = search needs
+returns c =
+    let at-give = c .before .before .before .before .before .before .before .before .before .before .before .before .before in
+    let n = at-give .before .before .before .before .before .before .before .before .before .before .before .before .before .before .before in
+    all-there _ _ _ _ _ _ _ _ _ _ _ _ _ _ _ _ _ _ (n .before .before .before .before .before .before .smaller4 .ensures) (n .before .before .before .before .before .smaller5 .ensures) (n .before .before .before .before .smaller6 .ensures) (n .before .before .before .smaller7 .ensures) (n .before .before .smaller8 .ensures) (n .before .smaller9 .ensures) (n .smaller10 .ensures) (n .before .before .before .before .before .before .before .before .before .smaller .ensures) (n .before .before .before .before .before .before .before .before .smaller2 .ensures) (n .before .before .before .before .before .before .before .smaller3 .ensures) _ (at-give .give .result) _ (at-give .give .ensures)
 
 pub give-gathered-spec : {M : Type 1} → statement M
 give-gathered-spec =
     tie.close
     (tie.spec
+    (λ c κs. search needs)
+    (λ c κs. search needs)
+    (λ c κs. search needs)
+    (λ c κs. search needs)
+    (λ c κs. search needs)
+    (λ c κs. search needs)
+    (λ c κs. search needs)
+    (λ c κs. search needs)
+    (λ c κs. search needs)
+    (λ c κs. search needs)
     slice-aggregate-give
     slice-aggregate-give-2
     slice-aggregate-give-3
@@ -78,7 +72,7 @@ give-gathered-spec =
     slice-aggregate-give-5
     slice-aggregate-give-6
     slice-aggregate-give-7
-    give-requires
+    (λ c κs. search needs)
     same-length
     same-length-2
     same-length-3

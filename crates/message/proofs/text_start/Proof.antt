@@ -1,4 +1,4 @@
-use Rattle.message.proofs.Trailer.{too-short, none-back, too-long, too-far, begins}
+use Rattle.message.proofs.Trailer.{too-short, none-back, too-far, in-reach, begins}
 use borrow.Author.Needs.{needs}
 use Rattle.message.proofs.text_start.Statement.{statement}
 use Rattle.message.proofs.text_start.Tie as tie
@@ -13,6 +13,7 @@ text-start-spec =
     (λ c. search needs)
     (λ c κs. search needs)
     (λ c. search (none-back, needs))
-    (λ c. search (too-long, needs))
+    (λ c κs. search needs)
     (λ c. search (too-far, needs))
+    (λ c. search (in-reach, needs))
     (λ c. search (begins, needs)))

@@ -5,6 +5,7 @@ mod examples;
 mod limits;
 mod messages;
 mod orders;
+mod places;
 mod prints;
 mod rules;
 mod texts;
@@ -32,6 +33,8 @@ pub fn all(writer: &mut Writer) {
     limits::all(writer);
     writer.line(b"# each rule of the tables broken");
     rules::all(writer);
+    writer.line(b"# places of refusals");
+    places::all(writer);
     writer.line(b"# doubles");
     doubles::all(writer);
     writer.line(b"# lines of the script itself");

@@ -61,11 +61,19 @@ fn texts(writer: &mut Writer) {
     }
 }
 
-/// 17 and the tables, 17 and the text.
+/// 21, 22 and 23 and the tables, and the text.
 fn messages(writer: &mut Writer) {
-    for message in
-        [&b""[..], b"1", b"x\x00\x00", b"x\x00\x02", b"x\x00\x01", b"5\x00\x01", b"1.2.3x\x00\x61", b"3/99.9\x00\x06"]
-    {
+    for message in [
+        &b""[..],
+        b"1",
+        b"\x00\x00",
+        b"x\x00\x00",
+        b"x\x00\x02",
+        b"x\x00\x01",
+        b"5\x00\x01",
+        b"1.2.3x\x00\x61",
+        b"3/99.9\x00\x06",
+    ] {
         writer.ask(Question::ReadMessage(message));
     }
 }

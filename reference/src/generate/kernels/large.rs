@@ -10,7 +10,7 @@ pub fn all(writer: &mut Writer) {
     for rows in [Partitions::MOST, Partitions::MOST + 1] {
         let one = Tables { count: vec![0], time: vec![0], rate: vec![25_000], ..a.clone() };
         let draft = writer.of(&Tables { start: vec![0; rows], end: vec![9; rows], ..one });
-        writer.draft(if rows > Partitions::MOST { "2: over 9,999 rows" } else { "16: all" }, &draft);
+        writer.draft(if rows > Partitions::MOST { "2 10000: over 9,999 rows" } else { "16: all" }, &draft);
     }
     let text = |writer: &mut Writer, len: usize| {
         let mut draft = Draft::new(&mut writer.random, 77, &a, Some(2), Style::Short);

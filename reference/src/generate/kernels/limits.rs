@@ -20,6 +20,7 @@ pub fn all(writer: &mut Writer) {
     lines(writer);
     lengths(writer, &a);
     rules(writer);
+    places(writer);
 }
 
 /// Any tables, with the rule they break.
@@ -229,6 +230,31 @@ fn lengths(writer: &mut Writer, a: &Tables) {
             ..a.clone()
         };
         ask(writer, &many);
+    }
+}
+
+/// Each rule of a row at the front, inside and at the end.
+fn places(writer: &mut Writer) {
+    for row in 0..3 {
+        for rule in 0..ROW_RULES {
+            let mut tables = long(3, rule);
+            break_row(&mut tables, rule, row);
+            ask(writer, &tables);
+        }
+        // A line in the second of four rows, whatever the row behind it does.
+        let mut tables = long(4, 9);
+        break_row(&mut tables, 9, 1);
+        break_row(&mut tables, 3 * row + 1, 3);
+        ask(writer, &tables);
+        let mut tables = long(4, 9);
+        break_row(&mut tables, 9, row);
+        ask(writer, &tables);
+        for (start, end) in [(8, 8), (9, 8), (3, E15), (0, E15 - 1)] {
+            let mut tables = long(1, 0);
+            (tables.start, tables.end) = (vec![3; 3], vec![20_000; 3]);
+            (tables.start[row], tables.end[row]) = (start, end);
+            ask(writer, &tables);
+        }
     }
 }
 

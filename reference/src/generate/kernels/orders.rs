@@ -37,7 +37,19 @@ fn pair(writer: &mut Writer, first: u32, second: u32, way: usize) {
         }
     }
     let text = draft.text(&mut writer.random, Style::Short);
-    writer.kernel(&format!("{}: before {}", first, second), draft.clock, lent, &text);
+    let place = place(first, way).map_or(String::new(), |place| format!(" {}", place));
+    writer.kernel(&format!("{}{}: before {}", first, place, second), draft.clock, lent, &text);
+}
+
+/// Of a rule that is broken as below.
+fn place(refusal: u32, way: usize) -> Option<usize> {
+    match (refusal, way % 6) {
+        (3, 0) => Some(0),
+        // One entry more in one list of two.
+        (2 | 3, 1) => Some(2),
+        (2 | 3, _) => Some(1),
+        _ => None,
+    }
 }
 
 /// Breaks one rule of that refusal; the name that it is broken in, if it is one name.

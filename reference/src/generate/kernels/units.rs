@@ -164,18 +164,18 @@ fn edges(writer: &mut Writer) {
         a(writer, "1: delimiter", DELIMITER, 0, max);
         a(writer, "1: P above 10^15", MODULI, 0, max);
         a(writer, "1: an offset above 1,000", OFFSETS, 1, max);
-        a(writer, "2: start above end", STARTS, 0, max);
-        a(writer, "2: end not below P", ENDS, 1, max);
-        a(writer, "3: several", COEFFICIENTS, 3, max);
+        a(writer, "2 0: start above end", STARTS, 0, max);
+        a(writer, "2 1: end not below P", ENDS, 1, max);
+        a(writer, "3 0: several", COEFFICIENTS, 3, max);
     }
     for (label, time) in [
-        ("3: a time too early", "-9223372036.854775808"),
+        ("3 0: a time too early", "-9223372036.854775808"),
         ("20: time too small", "-9223372036.854775809"),
         ("20: time too small", "-9223372036.8547758081"),
-        ("3: a time too early", "-4000000000.000000001"),
+        ("3 0: a time too early", "-4000000000.000000001"),
         ("ok: a time", "-4000000000.000000000"),
         ("ok: a time", "-4E9"),
-        ("3: several", "9223372036.854775807"),
+        ("3 0: several", "9223372036.854775807"),
         ("20: time too large", "9223372036.854775808"),
     ] {
         a(writer, label, COEFFICIENTS, 1, time);
@@ -184,14 +184,14 @@ fn edges(writer: &mut Writer) {
         ("ok: a rate", "25.001E-9"),
         ("20: rate not whole", "25.0001E-9"),
         ("20: rate below 0", "-25E-9"),
-        ("3: a rate too low", "0E99999999999999999999"),
-        ("3: a rate too low", "-0"),
+        ("3 1: a rate too low", "0E99999999999999999999"),
+        ("3 1: a rate too low", "-0"),
         ("20: rate too large", "1E99999999999999999999"),
         ("20: rate not whole", "1E-99999999999999999999"),
-        ("3: a rate too high", "1000.000000000001"),
-        ("3: a rate too high", "18446744.073709551615"),
+        ("3 1: a rate too high", "1000.000000000001"),
+        ("3 1: a rate too high", "18446744.073709551615"),
         ("20: rate too large", "18446744.073709551616"),
-        ("3: a rate too low", "0.000000009999"),
+        ("3 1: a rate too low", "0.000000009999"),
         ("ok: a rate", "0.000000010000"),
         ("ok: a rate", "0.000000010001"),
     ] {
@@ -246,19 +246,24 @@ fn surplus(writer: &mut Writer) {
         ("20: count too large", &["18446744073709551616"]),
     ] {
         for _ in 0..if label.starts_with('3') { 5 } else { 2 } {
-            let mut draft = writer.base();
-            draft.set_of(COEFFICIENTS).values.extend(more.iter().map(|value| value.to_string()));
-            writer.draft(label, &draft);
-            let mut draft = writer.of(&super::table_a());
-            draft.set_of(COEFFICIENTS).values.extend(more.iter().map(|value| value.to_string()));
-            writer.draft(label, &draft);
+            for mut draft in [writer.base(), writer.of(&super::table_a())] {
+                let values = &mut draft.set_of(COEFFICIENTS).values;
+                values.extend(more.iter().map(|value| value.to_string()));
+                let rows = values.len() / 3;
+                let label = label.replacen("3:", &format!("3 {}:", rows), 1);
+                writer.draft(&label, &draft);
+            }
         }
     }
-    // One or two coefficients in all.
-    for values in [&["0"][..], &["0", "0"], &["0", "0", "1", "1"]] {
-        let mut draft = writer.base();
-        draft.set_of(COEFFICIENTS).values = values.iter().map(|value| value.to_string()).collect();
-        writer.draft("3: not in threes", &draft);
+    // The place is the number of whole rows.
+    let values = ["0", "-1E-6", "25E-9", "600", "1E-6", "30E-9", "700", "2E-6", "40E-9", "800", "3E-6"];
+    for (len, times) in [(1, 3), (2, 3), (4, 20), (5, 20), (7, 20), (8, 20), (10, 3), (11, 3)] {
+        for _ in 0..times {
+            let mut draft = writer.of(&super::table_a());
+            draft.set_of(COEFFICIENTS).values = values[..len].iter().map(|value| value.to_string()).collect();
+            let label = if times > 3 { format!("{} coefficients", len) } else { "not in threes".to_string() };
+            writer.draft(&format!("3 {}: {}", len / 3, label), &draft);
+        }
     }
 }
 
@@ -293,7 +298,7 @@ fn forms(writer: &mut Writer) {
         a(writer, start, STARTS, 0, &format!("1E-{}", exponent));
         let rate = match exponent {
             0..=8 => "ok: exponents",
-            9..=12 => "3: a rate too low",
+            9..=12 => "3 0: a rate too low",
             _ => "20: rate not whole",
         };
         a(writer, rate, COEFFICIENTS, 2, &format!("1E-{}", exponent));

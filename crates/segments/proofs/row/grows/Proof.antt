@@ -1,5 +1,5 @@
-use borrow.Author.Needs.{needs}
 use Rattle.segments.proofs.OneRow.{count-not-after, time-after}
+use borrow.Author.Needs.{needs}
 use Rattle.segments.proofs.row.grows.Statement.{statement}
 use Rattle.segments.proofs.row.grows.Tie as tie
 
