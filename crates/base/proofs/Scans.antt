@@ -4,7 +4,7 @@
 --     some-at, some-none          `someBelow p n` and each number below n
 --     first-found, first-missing, first-is, first-none     `firstBelow`
 --     first-not-found, first-not-missing, first-not-is, first-not-none     `firstNot`
---     last-found, last-missing, last-is, last-none         `lastBelow`
+--     last-found, last-is, last-none         `lastBelow`
 --     sum-next, sum-same, sum-up  `sumBelow`
 use Prim.Native.Nat.{ℕ, zero, suc, _+_, _-_, _≤_, _<_}
 use mathlib.Core.Path.{_≡_, refl, sym, subst, _∙_}
@@ -174,10 +174,6 @@ module _ (p : ℕ → Bool) where
       (λ w. let same : w .0 ≡ i = cc (last-is n (w .0) (w .1)) in subst (Last n) same (w .1))
       (λ f. absurd (Option·none-ne-some i (sym (last-none n f) ∙ e)))
       (last-or n)
-
-  pub last-missing : (n i : ℕ) → lastBelow p n ≡ none → i < n → p i ≡ false
-  last-missing n i e l =
-      ⊎-elim (λ w. absurd (Option·some-ne-none (w .0) (sym (last-is n (w .0) (w .1)) ∙ e))) (λ f. f i l) (last-or n)
 
 -- the first of which p does not hold
 module _ (p : ℕ → Bool) where
