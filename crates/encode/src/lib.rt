@@ -65,7 +65,8 @@ fn is_within(start: u64, end: u64, count: u64) -> bool
     count <= end
 }
 
-fn lengths_before(starts: &[u64], ends: &[u64], number: usize) -> u64
+// The lengths of the first partitions, as many as `number` says, added up: the encoded count at which the next one starts.
+pub fn lengths_before(starts: &[u64], ends: &[u64], number: usize) -> u64
     requires { ⌜ Listed (partitions (now starts) (now ends)) ⌝ }
     requires { ⌜ number ≤ length (now starts) ⌝ }
     ensures { λ r. ⌜ r ≡ lengthsBefore (partitions (now (starts .entry)) (now (ends .entry))) number ⌝ }

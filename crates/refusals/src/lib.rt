@@ -148,3 +148,14 @@ pub const WRONG_DISTANCE: Refusal = Refusal {
     number: 23,
     place: Place::None,
 };
+
+// Of a raw counter: microseconds over 999,999; a reading before any accepted reset.
+pub const TOO_MANY_MICROSECONDS: Refusal = Refusal {
+    number: 24,
+    place: Place::None,
+};
+
+pub const NEVER_RESET: Refusal = Refusal {
+    number: 27,
+    place: Place::None,
+};

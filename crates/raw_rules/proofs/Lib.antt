@@ -1,0 +1,2 @@
+-- The ways out of the definitions of raw counters.
+pub mod Seconds

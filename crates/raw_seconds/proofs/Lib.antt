@@ -1,0 +1,2 @@
+-- The two ways out of the call.
+pub mod Seconds
