@@ -1,0 +1,5 @@
+pub mod Refusals
+pub mod Answers
+pub mod History
+pub mod Needed
+pub mod Subticks
