@@ -9,6 +9,7 @@ ghost use Rattle.script_tables.specs.Sizes.{Fit};
 ghost use Rattle.runner.specs.Room.{lineBuffer};
 use libc::STDIN_FILENO;
 use lines::LineStep;
+use raw_question::CounterNumbers;
 use script_line::LONGEST_LINE;
 use script_line::answer_line;
 use script_names::Numbers;
@@ -31,8 +32,16 @@ pub fn run() {
     let mut sizes = [0usize; script_tables::LIST_COUNT];
     let mut lists = [0u64; script_tables::LISTS_ROOM];
     let mut times = [0i64; MOST_ENTRIES];
+    let mut counter = [0u64; raw_question::COUNTER_NUMBERS];
     let mut line = line_room();
-    let kept = answer_input(&mut line, &mut layout, &mut sizes, &mut lists, &mut times);
+    let kept = answer_input(
+        &mut line,
+        &mut layout,
+        &mut sizes,
+        &mut lists,
+        &mut times,
+        &mut counter,
+    );
     if kept > 0 {
         answer_last(
             &line[0..kept],
@@ -40,6 +49,7 @@ pub fn run() {
             &mut sizes,
             &mut lists,
             &mut times,
+            &mut counter,
         );
     }
 }
@@ -58,6 +68,7 @@ fn answer_input(
     sizes: &mut Sizes,
     lists: &mut Lists,
     times: &mut TimeList,
+    counter: &mut CounterNumbers,
 ) -> usize
     requires { ⌜ length (now line) ≡ lineBuffer ⌝ }
     requires { ⌜ Fit (now sizes) ⌝ }
@@ -73,7 +84,16 @@ fn answer_input(
         if n == 0 {
             return kept;
         }
-        kept = answer_lines(&chunk[..n], line, kept, layout, sizes, lists, times);
+        kept = answer_lines(
+            &chunk[..n],
+            line,
+            kept,
+            layout,
+            sizes,
+            lists,
+            times,
+            counter,
+        );
         turns -= 1;
     }
     kept
@@ -88,6 +108,7 @@ fn answer_lines(
     sizes: &mut Sizes,
     lists: &mut Lists,
     times: &mut TimeList,
+    counter: &mut CounterNumbers,
 ) -> usize
     requires { ⌜ length (now line) ≡ lineBuffer ⌝ }
     requires { ⌜ kept ≤ lineBuffer ⌝ }
@@ -104,7 +125,7 @@ fn answer_lines(
     while at < chunk.len() {
         let step = lines::next(chunk, at, line, held);
         at = step.at;
-        let places = settle(step, line, layout, sizes, lists, times, out, place);
+        let places = settle(step, line, layout, sizes, lists, times, counter, out, place);
         held = places.kept;
         place = places.out;
     }
@@ -120,6 +141,7 @@ fn settle(
     sizes: &mut Sizes,
     lists: &mut Lists,
     times: &mut TimeList,
+    counter: &mut CounterNumbers,
     out: &mut [u8],
     at: usize,
 ) -> Places
@@ -132,7 +154,7 @@ fn settle(
     let n = step.kept;
     if step.ended {
         let from = answers::with_room(out, at, LONGEST_ANSWER);
-        let place = answer_line(&line[0..n], layout, sizes, lists, times, out, from);
+        let place = answer_line(&line[0..n], layout, sizes, lists, times, counter, out, from);
         return Places {
             kept: 0,
             out: place,
@@ -147,11 +169,12 @@ fn answer_last(
     sizes: &mut Sizes,
     lists: &mut Lists,
     times: &mut TimeList,
+    counter: &mut CounterNumbers,
 )
     requires { ⌜ Fit (now sizes) ⌝ }
 {
     let mut buffer = [0u8; LONGEST_ANSWER];
     let out: &mut [u8] = &mut buffer;
-    let place = answer_line(line, layout, sizes, lists, times, out, 0);
+    let place = answer_line(line, layout, sizes, lists, times, counter, out, 0);
     answers::write_out(out, place);
 }

@@ -1,11 +1,13 @@
-// What one line of a script does: it changes the tables, or it is a question and has an answer.
+// What one line of a script does: it changes the tables or the raw counter, or it is a question and has an answer.
 ghost use Prim.Native.Nat.{_≤_};
 ghost use lib.ListN.{length};
 ghost use Rattle.put.specs.Places.{Put};
 ghost use Rattle.script_tables.specs.Sizes.{Fit};
+use raw_question::CounterNumbers;
 use script_names::Line;
 use script_names::Numbers;
 use script_names::Question;
+use script_names::RawLine;
 use script_names::TableLine;
 use script_tables::COUNTS;
 use script_tables::ENDS;
@@ -18,13 +20,14 @@ use script_tables::TimeList;
 
 pub const LONGEST_LINE: usize = 140_000;
 
-// Changes the tables as the line says, or puts its answer into the output, and answers the place after it.
+// Changes the tables and the raw counter as the line says, or puts its answer into the output, and answers the place after it.
 pub fn answer_line(
     line: &[u8],
     layout: &mut Numbers,
     sizes: &mut Sizes,
     lists: &mut Lists,
     times: &mut TimeList,
+    counter: &mut CounterNumbers,
     out: &mut [u8],
     place: usize,
 ) -> usize
@@ -63,6 +66,7 @@ pub fn answer_line(
             place,
         ),
         Line::Kernel => kernel_question::read_kernel(&numbers, line, rest, out, place),
+        Line::Raw(raw) => ask_counter(raw, &numbers, layout, sizes, lists, counter, out, place),
         Line::PassedOver => place,
         Line::Bad => answers::put_bad(out, place),
     }
@@ -115,6 +119,31 @@ fn ask(
         script_tables::entries(lists, COUNTS, sizes),
         script_tables::time_entries(times, sizes),
         script_tables::entries(lists, RATES, sizes),
+        out,
+        place,
+    )
+}
+
+fn ask_counter(
+    line: RawLine,
+    numbers: &Numbers,
+    layout: &Numbers,
+    sizes: &Sizes,
+    lists: &Lists,
+    counter: &mut CounterNumbers,
+    out: &mut [u8],
+    place: usize,
+) -> usize
+    requires { ⌜ Fit (now sizes) ⌝ }
+    ensures { λ r. ⌜ Put place (now (out .entry)) r ⌝ }
+{
+    raw_question::answer(
+        line,
+        numbers,
+        script_tables::layout_of(layout),
+        script_tables::entries(lists, STARTS, sizes),
+        script_tables::entries(lists, ENDS, sizes),
+        counter,
         out,
         place,
     )

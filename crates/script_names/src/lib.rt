@@ -36,10 +36,20 @@ pub enum Question {
     Back,
 }
 
+// A line over the script's raw counter, or a question of seconds.
+pub enum RawLine {
+    New,
+    State,
+    Reset,
+    Read,
+    Microseconds,
+}
+
 pub enum Line {
     Table(TableLine),
     Ask(Question),
     Kernel,
+    Raw(RawLine),
     PassedOver,
     Bad,
 }
@@ -58,13 +68,14 @@ pub type Numbers = [u64; MOST_NUMBERS];
 // Room for a name and a blank.
 const NAME_ROOM: usize = 13;
 
-const LINES: usize = 19;
+const LINES: usize = 24;
 
 type Row = [u8; NAME_ROOM + MOST_NUMBERS];
 
 // Each line's name, and a letter for the form of each word behind it:
 //     n  a number from 0 to 2^64 - 1
 //     b  a number from 0 to 255
+//     w  a number from 0 to 2^32 - 1
 //     l  the length of a lent buffer, 0 to 256
 //     e  how many entries a lent list has, 0 to 40
 //     t  a time from -2^63 to 2^63 - 1, which is read as its ordinal
@@ -90,6 +101,11 @@ const ROWS: [Row; LINES] = [
     *b"forward      dddnn                 ",
     *b"back         dddnd                 ",
     *b"read-kernel  teeeeeeeh             ",
+    *b"raw-new                            ",
+    *b"raw-state    wn                    ",
+    *b"raw-reset    nw                    ",
+    *b"raw-read     w                     ",
+    *b"microseconds ww                    ",
 ];
 
 fn line_of(row: usize) -> Line {
@@ -113,6 +129,11 @@ fn line_of(row: usize) -> Line {
         16 => Line::Ask(Question::Forward),
         17 => Line::Ask(Question::Back),
         18 => Line::Kernel,
+        19 => Line::Raw(RawLine::New),
+        20 => Line::Raw(RawLine::State),
+        21 => Line::Raw(RawLine::Reset),
+        22 => Line::Raw(RawLine::Read),
+        23 => Line::Raw(RawLine::Microseconds),
         _ => Line::Bad,
     }
 }
@@ -263,6 +284,7 @@ fn word_at(line: &[u8], at: usize, form: u8) -> Word
     match form {
         b'n' => numbers::decimal(line, from, u64::MAX),
         b'b' => numbers::decimal(line, from, 255),
+        b'w' => numbers::decimal(line, from, 4_294_967_295),
         b'l' => numbers::decimal(line, from, 256),
         b'e' => numbers::decimal(line, from, 40),
         b't' => numbers::time(line, from),

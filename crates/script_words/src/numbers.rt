@@ -152,6 +152,13 @@ pub fn byte_of(number: u64) -> u8
     (number % 256) as u8
 }
 
+// A number of the form w.
+pub fn word_of(number: u64) -> u32
+    ensures { λ r. ⌜ r ≡ number % 4294967296 ⌝ }
+{
+    (number % 4_294_967_296) as u32
+}
+
 // A number of the form l or e.
 pub fn lent_length(number: u64, most: u64) -> usize
     ensures { λ r. ⌜ r ≡ min number most ⌝ }

@@ -1,9 +1,13 @@
 use borrow.Author.Needs.{needs}
+use Rattle.runner.proofs.Ended.{none-kept, still-kept}
 use Rattle.runner.proofs.settle.Statement.{statement}
 use Rattle.runner.proofs.settle.Tie as tie
 
 returns : tie.Need-returns
-returns c = (rw (c .before .before .before .before .before .before .before .before .before .before .before .if1 .taken), (search needs, search needs))
+returns c = (search (none-kept, needs), (search needs, search needs))
+
+returns-2 : tie.Need-returns-2
+returns-2 c = (search (still-kept, needs), (search needs, search needs))
 
 pub settle-spec : {M : Type 1} → statement M
 settle-spec =
@@ -16,4 +20,4 @@ settle-spec =
     (λ c κs. search needs)
     (λ c. search needs)
     returns
-    (λ c. search needs))
+    returns-2)
