@@ -1,4 +1,4 @@
-//! An independent second reading of the clock rules: document 01, sentence by sentence, and requests 1 to 3 of document
+//! An independent second reading of the clock rules: document 01, sentence by sentence, and requests 1 to 4 of document
 //! 02, in plain Rust.
 //!
 //! Words in quotation marks in the comments are document 01's or a request's. Every public call checks the tables it uses.
@@ -13,6 +13,7 @@ mod message;
 mod partitions;
 mod print;
 mod program;
+mod raw;
 mod refusal;
 mod segments;
 mod stamp;
@@ -31,6 +32,7 @@ pub use message::read_message;
 pub use partitions::Partitions;
 pub use print::{print_count, print_stamp};
 pub use program::{stamp_program, table_a};
+pub use raw::{microseconds, RawCounter};
 pub use refusal::Refusal;
 pub use segments::{steps_back, Segments};
 pub use stamp::read_stamp;

@@ -45,12 +45,8 @@ impl<'a> Partitions<'a> {
         let holds = |i: usize| (self.start[i]..=self.end[i]).contains(&count);
         let row = match named {
             Some(number) => {
-                // "partition 0 or above the number there is"
-                if number < 1 || number > self.start.len() as u64 {
-                    return Err(Refusal::new(10));
-                }
+                let row = self.row(number)?;
                 // "count outside the named partition"
-                let row = number as usize - 1;
                 if !holds(row) {
                     return Err(Refusal::new(11));
                 }
@@ -60,8 +56,20 @@ impl<'a> Partitions<'a> {
             // exactly if no partition holds it."
             None => (0..self.start.len()).find(|&row| holds(row)).ok_or(Refusal::new(11))?,
         };
-        let earlier: u64 = self.rows().take(row).map(|(start, end)| end - start).sum();
-        Ok(earlier + (count - self.start[row]))
+        Ok(self.earlier(row) + (count - self.start[row]))
+    }
+
+    /// The row of a partition's number, or 10: "partition 0 or above the number there is".
+    pub(crate) fn row(self, number: u64) -> Result<usize, Refusal> {
+        if number < 1 || number > self.start.len() as u64 {
+            return Err(Refusal::new(10));
+        }
+        Ok(number as usize - 1)
+    }
+
+    /// Of checked lists: "the sum of the earlier lengths".
+    pub(crate) fn earlier(self, row: usize) -> u64 {
+        self.rows().take(row).map(|(start, end)| end - start).sum()
     }
 
     /// Of checked lists, for e up to the total: the partition's number and the count in it. "The encoded count e

@@ -1,15 +1,16 @@
-//! Writes a script, and remembers the tables in force.
+//! Writes a script, and remembers the tables and the raw counter in force.
 
 use std::io::Write;
 
 use crate::random::Random;
 use crate::script::{put_bytes, KernelQuestion, Question, Tables};
-use crate::{DoubleSegment, Layout, Partitions, Segments};
+use crate::{DoubleSegment, Layout, Partitions, RawCounter, Segments};
 
 pub struct Writer {
     pub random: Random,
     pub script: Vec<u8>,
     pub tables: Tables,
+    pub counter: RawCounter,
     /// How many questions were asked, bad lines not counted.
     pub questions: u64,
     /// Whether a line may have bytes that are no plain text.
@@ -18,7 +19,8 @@ pub struct Writer {
 
 impl Writer {
     pub fn new(seed: u64) -> Writer {
-        Writer { random: Random::new(seed), script: vec![], tables: Tables::new(), questions: 0, raw: false }
+        let (tables, counter) = (Tables::new(), RawCounter::new());
+        Writer { random: Random::new(seed), script: vec![], tables, counter, questions: 0, raw: false }
     }
 
     /// Any line, as it is.
@@ -183,6 +185,35 @@ impl Writer {
                 }
                 self.bytes(" ", text);
             }
+            Question::RawReset { number, raw } => {
+                self.word("raw-reset");
+                self.number(number);
+                self.number(raw);
+                let _ = self.counter.reset(&self.tables.layout, self.tables.partitions(), number, raw);
+            }
+            Question::RawRead(raw) => {
+                self.word("raw-read");
+                self.number(raw);
+                let _ = self.counter.read(&self.tables.layout, self.tables.partitions(), raw);
+            }
+            Question::Microseconds { seconds, us } => {
+                self.word("microseconds");
+                self.number(seconds);
+                self.number(us);
+            }
+        }
+        self.script.push(10);
+    }
+
+    /// Puts a raw counter in force.
+    pub fn counter(&mut self, counter: RawCounter) {
+        self.counter = counter;
+        if counter.reset {
+            self.word("raw-state");
+            self.number(counter.raw);
+            self.number(counter.count);
+        } else {
+            self.word("raw-new");
         }
         self.script.push(10);
     }

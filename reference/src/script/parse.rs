@@ -1,7 +1,7 @@
 //! Lines to questions and table entries.
 
 use super::{LONGEST_LINE, MOST_BYTES, MOST_KERNEL, MOST_LEN, MOST_LENT};
-use crate::{DoubleSegment, Layout};
+use crate::{DoubleSegment, Layout, RawCounter};
 
 /// A good line.
 pub enum Line<'a> {
@@ -13,6 +13,7 @@ pub enum Line<'a> {
     Count(u64),
     Time(i64),
     Rate(u64),
+    Counter(RawCounter),
     Ask(Question<'a>),
 }
 
@@ -29,6 +30,9 @@ pub enum Question<'a> {
     Forward { segment: DoubleSegment, msf: u64, given: u64 },
     Back { segment: DoubleSegment, msf: u64, given: f64 },
     ReadKernel(KernelQuestion<'a>),
+    RawReset { number: u64, raw: u32 },
+    RawRead(u32),
+    Microseconds { seconds: u32, us: u32 },
 }
 
 #[derive(Clone, Copy)]
@@ -94,6 +98,20 @@ pub fn parse<'a>(line: &[u8], buffer: &'a mut [u8; MOST_KERNEL]) -> Option<Line<
             }
             Line::Ask(Question::ReadKernel(KernelQuestion { clock, lent, text: bytes(words.next()?, buffer)? }))
         }
+        b"raw-new" => Line::Counter(RawCounter::new()),
+        b"raw-state" => {
+            let (raw, count) = (half(words.next()?)?, number(words.next()?)?);
+            Line::Counter(RawCounter::at(raw, count))
+        }
+        b"raw-reset" => {
+            let (number, raw) = (number(words.next()?)?, half(words.next()?)?);
+            Line::Ask(Question::RawReset { number, raw })
+        }
+        b"raw-read" => Line::Ask(Question::RawRead(half(words.next()?)?)),
+        b"microseconds" => {
+            let (seconds, us) = (half(words.next()?)?, half(words.next()?)?);
+            Line::Ask(Question::Microseconds { seconds, us })
+        }
         _ => return None,
     };
     match words.next() {
@@ -115,6 +133,11 @@ fn number(word: &[u8]) -> Option<u64> {
 
 fn byte(word: &[u8]) -> Option<u8> {
     u8::try_from(number(word)?).ok()
+}
+
+/// "RAW, SECONDS and US are 0 to 2^32 - 1".
+fn half(word: &[u8]) -> Option<u32> {
+    u32::try_from(number(word)?).ok()
 }
 
 /// A length.

@@ -6,19 +6,21 @@ use super::{
     parse, KernelQuestion, Line, Question, Tables, LONGEST_LINE, MOST_ENTRIES, MOST_KERNEL, MOST_LEN, MOST_LENT,
 };
 use crate::{
-    back, count_at, forward, print_count, print_stamp, read_kernel, read_message, read_stamp, read_text, steps_back,
-    time_of, Refusal,
+    back, count_at, forward, microseconds, print_count, print_stamp, read_kernel, read_message, read_stamp, read_text,
+    steps_back, time_of, RawCounter, Refusal,
 };
 
 /// Answers a script line by line.
 pub struct Session {
     pub tables: Tables,
+    /// "The script has one raw counter; at the start it has seen no reset."
+    pub counter: RawCounter,
     buffer: Box<[u8; MOST_KERNEL]>,
 }
 
 impl Session {
     pub fn new() -> Session {
-        Session { tables: Tables::new(), buffer: Box::new([0; MOST_KERNEL]) }
+        Session { tables: Tables::new(), counter: RawCounter::new(), buffer: Box::new([0; MOST_KERNEL]) }
     }
 
     /// One line without its byte 10; its answer, if it has one, is added to the output.
@@ -28,7 +30,7 @@ impl Session {
             return;
         }
         let done = match parse(line, &mut self.buffer) {
-            Some(good) => self.tables.take(good, output),
+            Some(good) => self.tables.take(&mut self.counter, good, output),
             None => false,
         };
         if !done {
@@ -45,7 +47,7 @@ impl Default for Session {
 
 impl Tables {
     /// False for "a 10,002nd entry".
-    fn take(&mut self, line: Line, output: &mut Vec<u8>) -> bool {
+    fn take(&mut self, counter: &mut RawCounter, line: Line, output: &mut Vec<u8>) -> bool {
         match line {
             Line::Layout(layout) => self.layout = layout,
             Line::Partitions => {
@@ -62,12 +64,13 @@ impl Tables {
             Line::Count(value) => return add(&mut self.count, value),
             Line::Time(value) => return add(&mut self.time, value),
             Line::Rate(value) => return add(&mut self.rate, value),
-            Line::Ask(question) => self.answer(question, output),
+            Line::Counter(state) => *counter = state,
+            Line::Ask(question) => self.answer(counter, question, output),
         }
         true
     }
 
-    fn answer(&self, question: Question, output: &mut Vec<u8>) {
+    fn answer(&self, counter: &mut RawCounter, question: Question, output: &mut Vec<u8>) {
         let (layout, partitions, segments) = (&self.layout, self.partitions(), self.segments());
         let written = match question {
             Question::ReadText(text) => plain(output, read_text(layout, text)),
@@ -92,6 +95,15 @@ impl Tables {
             Question::Forward { segment, msf, given } => plain(output, bits(forward(segment, msf, given))),
             Question::Back { segment, msf, given } => plain(output, bits(back(segment, msf, given))),
             Question::ReadKernel(question) => kernel(output, question),
+            Question::RawReset { number, raw } => {
+                let result = counter.reset(layout, partitions, number, raw);
+                counted(output, result, counter)
+            }
+            Question::RawRead(raw) => {
+                let result = counter.read(layout, partitions, raw);
+                counted(output, result, counter)
+            }
+            Question::Microseconds { seconds, us } => plain(output, microseconds(seconds, us)),
         };
         written.expect("a vector takes all bytes");
     }
@@ -125,6 +137,19 @@ fn printed(output: &mut Vec<u8>, result: Result<usize, Refusal>, lent: &[u8]) ->
     put_bytes(output, lent);
     output.push(10);
     Ok(())
+}
+
+/// With "the state afterwards [..]; `none` where no reset was accepted".
+fn counted(output: &mut Vec<u8>, result: Result<u64, Refusal>, counter: &RawCounter) -> io::Result<()> {
+    match result {
+        Ok(_) => write!(output, "ok")?,
+        Err(refusal) => write!(output, "refused {}", refusal)?,
+    }
+    if counter.reset {
+        writeln!(output, " {} {}", counter.raw, counter.count)
+    } else {
+        writeln!(output, " none")
+    }
 }
 
 /// With every lent list afterwards, "each entry 99 before the call".

@@ -183,6 +183,9 @@ fn name(question: &Question) -> &'static str {
         Question::Forward { .. } => "forward",
         Question::Back { .. } => "back",
         Question::ReadKernel(_) => "read-kernel",
+        Question::RawReset { .. } => "raw-reset",
+        Question::RawRead(_) => "raw-read",
+        Question::Microseconds { .. } => "microseconds",
     }
 }
 
