@@ -1,6 +1,6 @@
 //! The generator brings up every outcome, and the stored samples are its.
 
-use reference::generate::{fresh, fresh_kernels, script, tables, STORED_COUNT, STORED_SEED};
+use reference::generate::{fresh, fresh_kernels, fresh_raw, script, tables, STORED_COUNT, STORED_SEED};
 use reference::random::Random;
 use reference::script::answers;
 use reference::steps_back;
@@ -85,6 +85,13 @@ fn outcomes() -> Vec<String> {
         ("steps-back", "ok yes|ok no", vec!["1|2|3"]),
         ("forward", "ok", vec![double, "15, count above 10^15"]),
         ("back", "ok", vec![double, "15, given not finite"]),
+        ("raw-reset", "ok", vec!["1|2|10, zero|10, above"]),
+        (
+            "raw-read",
+            "ok, an equal raw number|ok, no rollover|ok, rollover",
+            vec!["1|2|27|12, past the total|12, past 2^64"],
+        ),
+        ("microseconds", "ok, carried|ok, not carried", vec!["24"]),
     ] {
         all.extend(answers.split('|').map(|answer| format!("{} {}", call, answer)));
         all.extend(
@@ -193,6 +200,29 @@ fn places() -> Vec<String> {
     all
 }
 
+/// What questions about raw counters show.
+fn counters() -> Vec<String> {
+    let resets = "the first|again|the only partition|the first partition|an inner partition|the last partition\
+                  |the only partition, its start above 0|the first partition, its start above 0\
+                  |an inner partition, its start above 0|the last partition, its start above 0\
+                  |1, none|1, kept|2, none|2, kept|10, zero, none|10, zero, kept|10, above, none|10, above, kept\
+                  |after a refused reading, 12|after a refused reading, 27|after a refused reset, 10";
+    let reads = "the total itself|past a partition's end|a difference of 1|a difference of 2^32 - 1\
+                 |another total than before|after a refused reading, 1|after a refused reading, 2\
+                 |after a refused reading, 12|after a refused reset, 1|after a refused reset, 2|after a refused reset, 10\
+                 |1, none|1, kept|2, none|2, kept|27, none|27, a raw number above the total\
+                 |27, a raw number up to the total|12, past the total, kept|12, past 2^64, kept|12, by one|12, rollover\
+                 |12, an equal raw number|12, a difference of 2^32 - 1|12, another total than before\
+                 |12, past 2^64, the low 64 bits within the total";
+    let microseconds = "a subtick's first microsecond|a subtick's last microsecond|carried to second 2^32\
+                        |24, a million|24, below 2^20|24, from 2^20 on";
+    let mut all = vec![];
+    for (call, list) in [("raw-reset", resets), ("raw-read", reads), ("microseconds", microseconds)] {
+        all.extend(list.split('|').map(|show| format!("{} {}", call, show)));
+    }
+    all
+}
+
 /// A rule as the clause of a kernel text's refusal.
 fn kernel_rule(rule: &str) -> String {
     ["read-kernel refused ", &rule.replacen(": ", ", ", 1)].concat()
@@ -207,8 +237,10 @@ fn every_outcome_comes_up() {
     assert!(tally.bad_lines >= 200);
     assert!(tally.kernels >= 3_000);
     assert!(tally.kernels_answered * 100 >= tally.kernels * 40, "{} of {}", tally.kernels_answered, tally.kernels);
+    assert!(tally.raws >= 10_000);
+    assert!(tally.raws_answered * 100 >= tally.raws * 50, "{} of {}", tally.raws_answered, tally.raws);
     assert!(tally.unexpected.is_empty(), "{:?}", tally.unexpected);
-    assert!(script.len() + answers(&script).len() < 11_500_000, "{} bytes", script.len());
+    assert!(script.len() + answers(&script).len() < 12_500_000, "{} bytes", script.len());
     let mut outcomes = outcomes();
     outcomes.extend(kernels(KERNELS));
     outcomes.extend(RULES.iter().filter(|rule| !NO_KERNEL.contains(rule)).map(|rule| kernel_rule(rule)));
@@ -223,6 +255,10 @@ fn every_outcome_comes_up() {
     for label in &places() {
         let times = tally.places.get(label).copied().unwrap_or(0);
         assert!(times >= FEWEST, "{} samples of place {}", times, label);
+    }
+    for show in &counters() {
+        let times = tally.counters.get(show).copied().unwrap_or(0);
+        assert!(times >= FEWEST, "{} samples that show {}", times, show);
     }
     let rare = kernels(RARE);
     for outcome in &rare {
@@ -260,6 +296,28 @@ fn a_seed_gives_one_script() {
     assert_eq!((tally.kernels, tally.bad_lines), (4_000, 0));
     assert!(tally.kernels_answered > 2_000 && tally.kernels_answered < 3_500);
     assert!(script.len() < 4_000 * 2_500);
+}
+
+/// Random lists of calls: of every kind, answered in the main, and each answer found a second time.
+#[test]
+fn random_calls_of_raw_counters() {
+    assert!(fresh_raw(7, 500) == fresh_raw(7, 500));
+    let (mut asked, mut answered) = (0, 0);
+    for seed in 0..150 {
+        let script = fresh_raw(seed, 1_000);
+        let tally = tally(&script);
+        assert!(tally.raws >= 1_000 && tally.raws == tally.questions);
+        assert!(tally.unexpected.is_empty(), "{:?}", tally.unexpected);
+        asked += tally.raws;
+        answered += tally.raws_answered;
+    }
+    assert!(answered * 100 > asked * 55, "{} of {}", answered, asked);
+    let tally = tally(&fresh_raw(9, 20_000));
+    for outcome in outcomes().iter().filter(|outcome| outcome.starts_with("raw-") || outcome.starts_with("micro")) {
+        assert!(tally.outcomes.contains_key(outcome), "no question of {}", outcome);
+    }
+    let tally = reference::tally::tally(&fresh(9, 20_000));
+    assert!(tally.raws > 1_000 && tally.raws_answered > 500, "{} of {}", tally.raws_answered, tally.raws);
 }
 
 #[test]

@@ -3,11 +3,11 @@
 use std::io::{Read, Write};
 use std::process::{Command, ExitCode, Stdio};
 
-use reference::generate::{fresh, fresh_kernels, put_tables};
+use reference::generate::{fresh, fresh_kernels, fresh_raw, put_counter, put_tables};
 use reference::random::Random;
 use reference::script::{answers, Session};
 
-const USAGE: &str = "compare --program PATH --seed S --questions N [--only kernel]";
+const USAGE: &str = "compare --program PATH --seed S --questions N [--only kernel|raw]";
 /// Questions asked of one run of the program.
 const CHUNK: u64 = 25_000;
 /// Kernel texts are longer.
@@ -27,7 +27,7 @@ fn main() -> ExitCode {
 }
 
 fn run() -> Result<u64, String> {
-    let (mut program, mut seed, mut questions, mut kernels) = (None, None, None, false);
+    let (mut program, mut seed, mut questions, mut only) = (None, None, None, String::new());
     let mut words = std::env::args().skip(1);
     while let Some(word) = words.next() {
         let value = words.next().ok_or(USAGE)?;
@@ -35,7 +35,7 @@ fn run() -> Result<u64, String> {
             "--program" => program = Some(value),
             "--seed" => seed = Some(value.parse::<u64>().map_err(|_| USAGE)?),
             "--questions" => questions = Some(value.parse::<u64>().map_err(|_| USAGE)?),
-            "--only" if value == "kernel" => kernels = true,
+            "--only" if value == "kernel" || value == "raw" => only = value,
             _ => return Err(USAGE.to_string()),
         }
     }
@@ -44,8 +44,12 @@ fn run() -> Result<u64, String> {
     let mut seeds = Random::new(seed);
     let mut compared = 0;
     while left > 0 {
-        let (chunk_seed, asked) = (seeds.word(), left.min(if kernels { KERNELS } else { CHUNK }));
-        let script = if kernels { fresh_kernels(chunk_seed, asked) } else { fresh(chunk_seed, asked) };
+        let (chunk_seed, asked) = (seeds.word(), left.min(if only == "kernel" { KERNELS } else { CHUNK }));
+        let script = match only.as_str() {
+            "kernel" => fresh_kernels(chunk_seed, asked),
+            "raw" => fresh_raw(chunk_seed, asked),
+            _ => fresh(chunk_seed, asked),
+        };
         let (expected, given) = ask(&program, &script)?;
         if expected != given {
             return Err(format!("chunk seed {}, {} questions\n{}", chunk_seed, asked, difference(&script, &given)));
@@ -78,13 +82,14 @@ fn ask(program: &str, script: &[u8]) -> Result<(Vec<u8>, Vec<u8>), String> {
     Ok((expected, given))
 }
 
-/// The first answer that differs, with its question and the tables in force.
+/// The first answer that differs, with its question and the tables and raw counter in force.
 fn difference(script: &[u8], given: &[u8]) -> String {
     let mut session = Session::new();
     let mut given = given.split(|&byte| byte == 10);
     let mut answer = vec![];
     for (number, line) in script.split(|&byte| byte == 10).enumerate() {
         answer.clear();
+        let before = session.counter;
         session.line(line, &mut answer);
         if answer.is_empty() {
             continue;
@@ -93,8 +98,9 @@ fn difference(script: &[u8], given: &[u8]) -> String {
         let other = given.next().unwrap_or(b"no answer");
         if answer != other {
             return format!(
-                "{}{}\n# line {} of the chunk\n# the library: {}\n# the program: {}",
+                "{}{}{}\n# line {} of the chunk\n# the library: {}\n# the program: {}",
                 String::from_utf8_lossy(&put_tables(&session.tables)),
+                put_counter(before),
                 String::from_utf8_lossy(line),
                 number + 1,
                 String::from_utf8_lossy(&answer),

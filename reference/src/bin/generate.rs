@@ -48,8 +48,12 @@ fn run() -> Result<(), String> {
     for (label, times) in &tally.places {
         eprintln!("{:>8} place {}", times, label);
     }
+    for (show, times) in &tally.counters {
+        eprintln!("{:>8} shows {}", times, show);
+    }
     eprintln!("{:>8} questions, {} answered, {} bad lines", tally.questions, tally.answered, tally.bad_lines);
     eprintln!("{:>8} kernel texts, {} answered", tally.kernels, tally.kernels_answered);
+    eprintln!("{:>8} of raw counters and microseconds, {} answered", tally.raws, tally.raws_answered);
     for unexpected in &tally.unexpected {
         eprintln!("unexpected {}", unexpected);
     }

@@ -1,6 +1,7 @@
 //! Tables as long as they may be, and longer.
 
 use super::catalogue::longest;
+use super::raw;
 use super::tables::total;
 use super::writer::Writer;
 use crate::script::{Question, Tables, MOST_ENTRIES};
@@ -21,6 +22,7 @@ pub fn all(writer: &mut Writer) {
     }
     writer.load(&tables);
     questions(writer, 24);
+    writer.apart(2, raw::most_partitions);
     // The clock with the longest prints: stamps of 63 bytes at the front, of 66 at the end.
     writer.layout(&longest());
     for e in [0, total(&tables) - 1, total(&tables)] {
@@ -54,6 +56,8 @@ pub fn all(writer: &mut Writer) {
             writer.line(b"end 1");
         }
         questions(writer, 3);
+        let rows = writer.tables.start.len();
+        writer.apart(3, |writer| raw::too_many_partitions(writer, rows));
     }
     writer.segments(Segments { count: &[0], time: &[0], rate: &[10_000] });
     questions(writer, 2);

@@ -7,14 +7,15 @@ mod kernels;
 mod large;
 mod lines;
 mod questions;
+mod raw;
 pub mod tables;
 mod texts;
 mod writer;
 
 use crate::random::Random;
 use broken::{break_layout, break_partitions, break_segments, LAYOUT_RULES, PARTITION_RULES, SEGMENT_RULES};
-pub use writer::put_tables;
 use writer::Writer;
+pub use writer::{put_counter, put_tables};
 
 /// What the stored samples are made from.
 pub const STORED_SEED: u64 = 1;
@@ -33,6 +34,9 @@ pub fn script(seed: u64, count: u64) -> Vec<u8> {
     // Kernel text has a part of its own.
     writer.random = Random::new(!seed);
     kernels::all(&mut writer);
+    // So have raw counters.
+    writer.random = Random::new(seed ^ 4 << 32);
+    raw::all(&mut writer);
     writer.script.pop();
     writer.script
 }
@@ -51,6 +55,20 @@ pub fn fresh(seed: u64, count: u64) -> Vec<u8> {
         for _ in 0..6 {
             writer.any_kernel();
         }
+        writer.any_calls(40);
+    }
+    writer.script
+}
+
+/// A script of random lists of calls of the raw counter, with microseconds.
+pub fn fresh_raw(seed: u64, count: u64) -> Vec<u8> {
+    let mut writer = Writer::new(seed);
+    writer.raw = true;
+    if writer.random.below(64) == 0 {
+        raw::all(&mut writer);
+    }
+    while writer.questions < count {
+        writer.any_calls(120);
     }
     writer.script
 }

@@ -208,14 +208,7 @@ impl Writer {
     /// Puts a raw counter in force.
     pub fn counter(&mut self, counter: RawCounter) {
         self.counter = counter;
-        if counter.reset {
-            self.word("raw-state");
-            self.number(counter.raw);
-            self.number(counter.count);
-        } else {
-            self.word("raw-new");
-        }
-        self.script.push(10);
+        self.word(&put_counter(counter));
     }
 
     fn bytes(&mut self, word: &str, bytes: &[u8]) {
@@ -234,6 +227,15 @@ impl Writer {
         self.double(segment.count);
         self.double(segment.time);
         self.double(segment.rate);
+    }
+}
+
+/// A raw counter as a script line.
+pub fn put_counter(counter: RawCounter) -> String {
+    if counter.reset {
+        format!("raw-state {} {}\n", counter.raw, counter.count)
+    } else {
+        "raw-new\n".to_string()
     }
 }
 

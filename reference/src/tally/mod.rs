@@ -1,7 +1,8 @@
 //! Counts what a script brings up: each call's outcomes, each clause of a refusal and of its place, each rule of the tables
 //! broken alone. The clauses, rules and places are found here a second time, from the question and the tables, not by the
-//! library. For kernel text the comment before a question says what it breaks, and where.
+//! library. For kernel text the comment before a question says what it breaks, and where; for raw counters it says so too.
 
+mod raw;
 mod tables;
 mod text;
 
@@ -32,7 +33,13 @@ pub struct Tally {
     /// Kernel texts, and those of them answered.
     pub kernels: u64,
     pub kernels_answered: u64,
-    /// Comments before kernel texts that say another outcome, with the outcome; prints of another length; other places.
+    /// Questions about raw counters and microseconds, and those of them answered.
+    pub raws: u64,
+    pub raws_answered: u64,
+    /// What they show. A question may have several.
+    pub counters: BTreeMap<String, u64>,
+    /// Comments that say another outcome, with the outcome; prints of another length; other places; other answers of raw
+    /// counters and microseconds.
     pub unexpected: Vec<String>,
 }
 
@@ -42,12 +49,21 @@ pub fn tally(script: &[u8]) -> Tally {
     let mut buffer = [0; MOST_KERNEL];
     let mut answer = vec![];
     let mut comment = String::new();
+    let mut memory = raw::Memory::default();
     for line in script.split(|&byte| byte == 10) {
         answer.clear();
+        let before = session.counter;
         session.line(line, &mut answer);
         match parse(line, &mut buffer) {
+            Some(Line::Counter(_)) => memory = raw::Memory::default(),
             _ if answer.is_empty() => {}
             Some(Line::Ask(Question::ReadKernel(_))) => tally.note_kernel(&comment, &answer),
+            Some(Line::Ask(
+                question @ (Question::RawReset { .. } | Question::RawRead(_) | Question::Microseconds { .. }),
+            )) => {
+                let expected = raw::expected(&mut memory, &session.tables, before, &question);
+                tally.note_raw(&comment, &session.tables, question, expected, &answer);
+            }
             Some(Line::Ask(question)) => tally.note(&session.tables, question, &answer),
             _ => tally.bad_lines += 1,
         }
@@ -149,6 +165,43 @@ impl Tally {
         }
         let word = if answered { "" } else { "refused " };
         *self.outcomes.entry(["read-kernel ", word, outcome, &clause].concat()).or_insert(0) += 1;
+    }
+
+    /// The comment has the outcome, a colon and what it is about.
+    fn note_raw(&mut self, comment: &str, tables: &Tables, question: Question, expected: raw::Expected, answer: &[u8]) {
+        let answer = String::from_utf8_lossy(answer);
+        let answer = answer.trim_end();
+        let call = name(&question);
+        if answer != expected.answer {
+            self.unexpected.push(format!("{}: {}, not {}", call, answer, expected.answer));
+        }
+        self.questions += 1;
+        self.raws += 1;
+        let words: Vec<&str> = answer.split(' ').collect();
+        // A refusal's number, and with it its place; the state stands behind them.
+        let (outcome, found) = match words[..] {
+            ["refused", "2", place, ..] => ("refused 2".to_string(), ["2 ", place].concat()),
+            ["refused", number, ..] => (["refused ", number].concat(), number.to_string()),
+            _ => ("ok".to_string(), "ok".to_string()),
+        };
+        if found == "ok" {
+            self.answered += 1;
+            self.raws_answered += 1;
+        } else if ["1", "2"].contains(&words[1]) {
+            let (_, labels) = self.refused(tables, &question, words[1]);
+            for label in labels {
+                *self.places.entry(label).or_insert(0) += 1;
+            }
+        }
+        if let Some((said, _)) = comment.split_once(": ") {
+            if said != found {
+                self.unexpected.push(format!("{}: {}", comment, found));
+            }
+        }
+        *self.outcomes.entry([call, " ", &outcome, expected.clause].concat()).or_insert(0) += 1;
+        for show in expected.shows {
+            *self.counters.entry([call, " ", &show].concat()).or_insert(0) += 1;
+        }
     }
 
     fn rule(&mut self, fault: &'static str) {

@@ -10,6 +10,7 @@ mod prints;
 mod rules;
 mod texts;
 
+use super::raw;
 use super::writer::Writer;
 use crate::script::Tables;
 use crate::Layout;
@@ -19,6 +20,7 @@ pub fn all(writer: &mut Writer) {
     // Before any table: all zeros, no lists.
     writer.line(b"# before any table");
     writer.each_question();
+    writer.apart(1, raw::before_tables);
     writer.line(b"# examples and readings");
     examples::all(writer);
     writer.line(b"# texts");
