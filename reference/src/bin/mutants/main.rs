@@ -7,7 +7,7 @@ use std::io;
 use std::path::Path;
 use std::process::{Command, ExitCode, Stdio};
 
-use list::MUTANTS;
+use list::{Mutant, MUTANTS};
 use reference::generate::{script, STORED_COUNT, STORED_SEED};
 use reference::script::answers;
 
@@ -48,7 +48,8 @@ fn run() -> Result<String, String> {
         return Err("mutants: the copy itself answers otherwise".to_string());
     }
     let mut alike = vec![];
-    for mutant in MUTANTS {
+    let chosen = chosen(std::env::args().skip(1).collect())?;
+    for mutant in &chosen {
         let path = copy.join("src").join(mutant.file);
         let source = fs::read_to_string(&path).map_err(failed)?;
         if source.matches(mutant.from).count() != 1 {
@@ -59,16 +60,25 @@ fn run() -> Result<String, String> {
         fs::write(&path, &source).map_err(failed)?;
         let (given, ended) = given?;
         let differing = differing(&expected, &given);
-        println!("{:<28} {:>6} answers differ{}", mutant.name, differing, if ended { "" } else { ", and it failed" });
+        println!("{:<38} {:>6} answers differ{}", mutant.name, differing, if ended { "" } else { ", and it failed" });
         if differing == 0 {
             alike.push(mutant.name);
         }
     }
     if alike.is_empty() {
-        Ok(format!("{} mutants, all seen", MUTANTS.len()))
+        Ok(format!("{} mutants, all seen", chosen.len()))
     } else {
-        Err(format!("{} mutants, not seen: {}", MUTANTS.len(), alike.join(", ")))
+        Err(format!("{} mutants, not seen: {}", chosen.len(), alike.join(", ")))
     }
+}
+
+/// All, or those whose names begin with one of the words.
+fn chosen(words: Vec<String>) -> Result<Vec<&'static Mutant>, String> {
+    if let Some(word) = words.iter().find(|word| !MUTANTS.iter().any(|mutant| mutant.name.starts_with(word.as_str()))) {
+        return Err(format!("mutants: none begins with {}", word));
+    }
+    let begins = |mutant: &&Mutant| words.iter().any(|word| mutant.name.starts_with(word.as_str()));
+    Ok(MUTANTS.iter().filter(|mutant| words.is_empty() || begins(mutant)).collect())
 }
 
 fn copy_all(from: &Path, to: &Path) -> io::Result<()> {
