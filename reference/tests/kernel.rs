@@ -583,9 +583,17 @@ fn exponents() {
         let form = format!("900{}1E-{}", zeros, shift + 1);
         refused(20, A.replace("500 900", &["500\n", &form].concat()));
     }
-    for exponent in
-        ["400", "9223372036854775807", "9223372036854775808", "18446744073709551616", "18446744073709551618"]
-    {
+    // The last three would be 0, 2 and 7 in 64 bits if each digit's step wrapped.
+    for exponent in [
+        "400",
+        "9223372036854775807",
+        "9223372036854775808",
+        "18446744073709551616",
+        "18446744073709551618",
+        "92233720368547758080",
+        "92233720368547758082",
+        "92233720368547758087",
+    ] {
         refused(20, A.replace("200", &["2E", exponent].concat()));
         refused(20, A.replace("200", &["2E-", exponent].concat()));
         good(A.replace("( 0 200", &["( 0E", exponent, " 200"].concat()));

@@ -10,8 +10,8 @@ pub struct Decimal<'a> {
     exponent: i64,
 }
 
-/// An exponent of more is taken as this: no text has as many digits.
-const MOST: i64 = 1_000_000_000_000_000_000;
+/// An exponent of more is taken as this: no text has as many digits, and one digit more still fits 64 bits.
+const MOST: i64 = 100_000_000_000_000_000;
 
 /// Every power of ten in 64 bits.
 const TENS: [u64; 20] = {

@@ -16,7 +16,9 @@ pub fn first_fault(tables: &Tables) -> String {
         [fault] => return fault.to_string(),
         _ => return "1: several".to_string(),
     }
-    for faults in [partition_faults(tables), segment_faults(tables)] {
+    // Segments are looked at only beside good partitions.
+    for faults_of in [partition_faults, segment_faults] {
+        let faults = faults_of(tables);
         if let Some(place) = place(&faults) {
             let (number, rule) = faults[0].0.split_at(1);
             let rule = if faults.len() > 1 { ": several" } else { rule };

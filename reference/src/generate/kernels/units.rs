@@ -29,6 +29,18 @@ pub fn all(writer: &mut Writer) {
     edges(writer);
     surplus(writer);
     forms(writer);
+    writer.apart(5, wrapping);
+}
+
+/// Exponents that would be small if each digit's step wrapped in 64 bits.
+fn wrapping(writer: &mut Writer) {
+    for digit in 0..10 {
+        let far = format!("9223372036854775808{}", digit);
+        a(writer, "20: end too large", ENDS, 1, &format!("9E{}", far));
+        a(writer, "20: end not whole", ENDS, 1, &format!("9E-{}", far));
+        a(writer, "20: rate too large", COEFFICIENTS, 5, &format!("3D+{}", far));
+        a(writer, "ok: exponents", STARTS, 0, &format!("0.E{}", far));
+    }
 }
 
 /// Replaces one of the list's values of that column.
