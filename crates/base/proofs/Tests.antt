@@ -44,6 +44,20 @@ or-second false h = h
 pub or-neither : {a b : Bool} → a ≡ false → b ≡ false → (a || b) ≡ false
 or-neither {a} {b} p q = rw (p, q)
 
+-- of two tests of which one holds, and not the second
+pub or-only-first : (a b : Bool) → (a || b) ≡ true → b ≡ false → a ≡ true
+or-only-first true b h n = refl
+or-only-first false b h n = absurd (not-both h n)
+
+-- of two tests of which neither holds
+pub neither-first : (a b : Bool) → (a || b) ≡ false → a ≡ false
+neither-first true b h = h
+neither-first false b h = refl
+
+pub neither-second : (a b : Bool) → (a || b) ≡ false → b ≡ false
+neither-second true b h = absurd (not-both refl h)
+neither-second false b h = h
+
 -- of a list of tests that all hold, the first and the rest
 pub all-of-head : (t : Bool) (ts : List Bool) → allOf (t ∷ ts) ≡ true → t ≡ true
 unfolding allOf

@@ -1,7 +1,7 @@
 -- A front part as the code scans it: where it stops, which byte is then at fault, and that its number is the value kept.
 use Prim.Native.Nat.{ℕ, zero, suc, _+_, _-_, _≤_, _<_, min, zero-le}
 use mathlib.Core.Path.{_≡_, refl, sym, ap, _∙_}
-use mathlib.Core.Bool.{Bool, true, false, cond, _||_}
+use mathlib.Core.Bool.{Bool, true, false, cond}
 use mathlib.Core.List.{List, [], _∷_}
 use mathlib.Core.Option.{some}
 use lib.Dec.{ltb, eqb}
@@ -9,7 +9,7 @@ use lib.ListN.{length, getD, take, drop}
 use borrow.Author.Tests.{eqb-true}
 use native.Mathlib.Nat.{add-zero, zero-add}
 use native.Mathlib.Omega.{arith}
-use Rattle.base.proofs.Tests.{by-test, not-both}
+use Rattle.base.proofs.Tests.{by-test, not-both, or-only-first}
 use Rattle.rules.specs.Answer.{failsAt}
 use Rattle.rules.specs.Text.{Field, Before, edge, number, gap, isDigit, isBlank, isAllowed, notAllowedFrom, after, afterBlank, fieldsFrom}
 use Rattle.rules.specs.Stamp.{standsInFront, hasNumber, frontFaultFrom, frontFault, firstValue}
@@ -21,15 +21,11 @@ use Rattle.fields.specs.Pass.{fieldCap, begun, before, digitIn, withBlan
 use Rattle.fields.proofs.Steps.{cond-yes, no-gap}
 use Rattle.fields.proofs.Over.{filled, run, over, split}
 
-only-first : (a b : Bool) → (a || b) ≡ true → b ≡ false → a ≡ true
-only-first true b h n = refl
-only-first false b h n = absurd (not-both h n)
-
 -- what can stand in a front part is a blank, or a digit that is not after a gap
 blank-or-digit : (w : Before) (b : ℕ) → standsInFront w b ≡ true → isDigit b ≡ false → b ≡ 32
 unfolding standsInFront
-blank-or-digit edge b h n = eqb-true b 32 (only-first (isBlank b) (isDigit b) h n)
-blank-or-digit number b h n = eqb-true b 32 (only-first (isBlank b) (isDigit b) h n)
+blank-or-digit edge b h n = eqb-true b 32 (or-only-first (isBlank b) (isDigit b) h n)
+blank-or-digit number b h n = eqb-true b 32 (or-only-first (isBlank b) (isDigit b) h n)
 blank-or-digit gap b h n = eqb-true b 32 h
 
 no-digit-after-gap : (b : ℕ) → standsInFront gap b ≡ true → isDigit b ≡ true → ⊥

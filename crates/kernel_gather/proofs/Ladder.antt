@@ -1,11 +1,11 @@
 -- 19 and 20 of the whole text, by the names with one value and the lists.
 use Prim.Native.Nat.{ℕ, _<_}
 use mathlib.Core.Path.{_≡_, refl, sym, ap, _∙_}
-use mathlib.Core.Bool.{Bool, true, false, _&&_, _||_}
+use mathlib.Core.Bool.{Bool, true, false, _&&_}
 use mathlib.Core.List.{List, [], _∷_}
 use native.Mathlib.Omega.{arith}
 use Rattle.base.specs.Scans.{allOf, allBelow, among}
-use Rattle.base.proofs.Tests.{by-test, not-both, and-both, and-first, and-second, all-of-head, all-of-tail}
+use Rattle.base.proofs.Tests.{by-test, not-both, and-both, and-first, and-second, or-only-first, all-of-head, all-of-tail}
 use Rattle.base.proofs.Scans.{all-from}
 use lib.Dec.{eqb, leb}
 use lib.ListN.{length}
@@ -98,11 +98,7 @@ system-number : (n : Number) → isSystem n ≡ true → unsigned n ≡ systemOf
 unfolding isSystem systemOf isExactly unsigned
 system-number Malformed h = absurd (not-both h refl)
 system-number Inexact h = absurd (not-both h refl)
-system-number (Plus v) h = by-test (eqb v 2) (λ t. eqb-true v 2 t ∙ rw t) (λ f. eqb-true v 1 (one (eqb v 1) (eqb v 2) h f) ∙ rw f)
-  where
-    one : (a b : Bool) → (a || b) ≡ true → b ≡ false → a ≡ true
-    one true b h f = refl
-    one false b h f = absurd (not-both h f)
+system-number (Plus v) h = by-test (eqb v 2) (λ t. eqb-true v 2 t ∙ rw t) (λ f. eqb-true v 1 (or-only-first (eqb v 1) (eqb v 2) h f) ∙ rw f)
 system-number (Minus v) h = absurd (not-both h refl)
 
 module _ (digits : List ℕ) (ls : List (List ℕ)) where

@@ -12,7 +12,7 @@ use native.Mathlib.Omega.{arith}
 use native.Mathlib.Numerals.{add-one}
 use Rattle.base.specs.Scans.{firstBelow, someBelow}
 use Rattle.base.proofs.Lists.{drop-next}
-use Rattle.base.proofs.Tests.{by-test, not-both, or-first}
+use Rattle.base.proofs.Tests.{by-test, or-first, or-only-first}
 use Rattle.base.proofs.Scans.{first-is, first-none, first-found, some-at, some-next}
 use Rattle.rules.specs.Answer.{failsAt}
 use Rattle.rules.specs.Text.{Before, edge, number, gap, isDigit, isBlank, isAllowed, after, afterBlank, notAllowedFrom}
@@ -40,10 +40,6 @@ clear-from s p (suc n) j e q f =
     (clear-from s p n (j + 1) (omega arith) (λ i h. q i (omega arith)) (below-next (λ i. p i ≡ false) j f (q j (le-refl j) ∙ not-of-true t))))
     (λ b. rw (drop-next s j 0 (omega arith), b)
     (sym (first-is p (length s) j (record { below = omega arith; holds = q j (le-refl j) ∙ not-of-false b; before = f }))))
-
-or-left : (a b : Bool) → b ≡ false → (a || b) ≡ true → a ≡ true
-or-left true b f h = refl
-or-left false b f h = absurd (not-both h f)
 
 -- the test of a byte that no second number begins at, and of one where a digit would begin it
 no-second : (b d : Bool) → (b || d) ≡ not (not (b || d) || false)
@@ -78,8 +74,8 @@ module _ (s : List ℕ) where
 
   stands-blank : (w : Before) (b : ℕ) → isDigit b ≡ false → standsInFront w b ≡ true → isBlank b ≡ true
   unfolding standsInFront
-  stands-blank edge b n t = or-left _ _ n t
-  stands-blank number b n t = or-left _ _ n t
+  stands-blank edge b n t = or-only-first _ _ t n
+  stands-blank number b n t = or-only-first _ _ t n
   stands-blank gap b n t = t
 
   digit-next : (j : ℕ) → digitBefore s j ≡ true → digitBefore s (j + 1) ≡ true
