@@ -9,28 +9,10 @@ fn main() {
     let mut messages = [0u8; 4096];
     bench_stamps::fill(&mut messages);
     bench_stamps::bench(timed, &messages);
+    bench_raw::bench(timed);
     let mut counts = [0u64; MOST_ROWS];
     let mut times = [0i64; MOST_ROWS];
     let mut rates = [0u64; MOST_ROWS];
-    bench_raw::bench(
-        timed,
-        &mut counts,
-        &mut rates,
-        2,
-        often(timed, 5_000_000, 1_000),
-        b"raw-reset-2",
-        b"raw-read-2",
-    );
-    bench_raw::bench(
-        timed,
-        &mut counts,
-        &mut rates,
-        9_999,
-        often(timed, 20_000, 100),
-        b"raw-reset-9999",
-        b"raw-read-9999",
-    );
-    bench_raw::bench_seconds(timed, often(timed, 20_000_000, 1_000));
     bench_rows::bench(
         timed,
         &mut counts,

@@ -6,6 +6,7 @@ use bench_report::layout;
 use bench_report::line;
 use bench_report::mixed;
 use bench_report::next;
+use bench_report::often;
 use bench_report::scaled;
 use raw_counter::read_raw;
 use raw_counter::reset_raw;
@@ -15,8 +16,34 @@ use raw_rules::RawStep;
 
 const LAST_RAW: u32 = 4_294_967_295;
 
+const MOST_ROWS: usize = 9_999;
+
+pub fn bench(timed: bool) {
+    let mut starts = [0u64; MOST_ROWS];
+    let mut ends = [0u64; MOST_ROWS];
+    bench_rows(
+        timed,
+        &mut starts,
+        &mut ends,
+        2,
+        often(timed, 5_000_000, 1_000),
+        b"raw-reset-2",
+        b"raw-read-2",
+    );
+    bench_rows(
+        timed,
+        &mut starts,
+        &mut ends,
+        MOST_ROWS,
+        often(timed, 20_000, 100),
+        b"raw-reset-9999",
+        b"raw-read-9999",
+    );
+    bench_seconds(timed, often(timed, 20_000_000, 1_000));
+}
+
 // The first `rows` of the lists become partitions, each two ticks shorter than the one before.
-pub fn bench(
+fn bench_rows(
     timed: bool,
     starts: &mut [u64],
     ends: &mut [u64],
@@ -126,7 +153,7 @@ fn counted(answer: RawAnswer) -> u64 {
     }
 }
 
-pub fn bench_seconds(timed: bool, asked: u64) {
+fn bench_seconds(timed: bool, asked: u64) {
     let from = libc::clock();
     let sum = seconds(asked);
     line(b"microseconds", asked, sum, timed, from);

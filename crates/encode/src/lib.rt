@@ -65,15 +65,15 @@ fn is_within(start: u64, end: u64, count: u64) -> bool
     count <= end
 }
 
-// The lengths of the first partitions, as many as `number` says, added up: the encoded count at which the next one starts.
-pub fn lengths_before(starts: &[u64], ends: &[u64], number: usize) -> u64
+// The lengths of the partitions before this row, added up: the encoded count of its start.
+pub fn lengths_before(starts: &[u64], ends: &[u64], row: usize) -> u64
     requires { ⌜ Listed (partitions (now starts) (now ends)) ⌝ }
-    requires { ⌜ number ≤ length (now starts) ⌝ }
-    ensures { λ r. ⌜ r ≡ lengthsBefore (partitions (now (starts .entry)) (now (ends .entry))) number ⌝ }
+    requires { ⌜ row ≤ length (now starts) ⌝ }
+    ensures { λ r. ⌜ r ≡ lengthsBefore (partitions (now (starts .entry)) (now (ends .entry))) row ⌝ }
 {
     let mut before: u64 = 0;
     let mut i = 0;
-    while i < number {
+    while i < row {
         before += ends[i] - starts[i];
         i += 1;
     }

@@ -59,7 +59,7 @@ use Rattle.places.proofs.Texts.{field-number, text-placed, stamp-placed
 abbrev pub NeverPlaced : {A : Type 0} → Answer A → Type 0
 NeverPlaced a = OnlyRefuses noPlace (10 ∷ 11 ∷ 12 ∷ 13 ∷ 14 ∷ 16 ∷ []) a
 
-unplaced : {A : Type 0} {a : Answer A} {k i : ℕ} → NeverPlaced a → a ≡ refuseAt k i → ⊥
+pub unplaced : {A : Type 0} {ks : List ℕ} {a : Answer A} {k i : ℕ} → OnlyRefuses noPlace ks a → a ≡ refuseAt k i → ⊥
 unfolding noPlace
 unplaced {k = k} {i = i} w h = true≢false (w (placed k i) h .place)
 
@@ -92,7 +92,7 @@ module _ {A : Type 0} (l : Layout) (p : Partitions) (a : Answer A) where
       ⊎-elim (λ f. inl (f .0, (w .0, partitions-place (productOf l) p i .0 (f .1)))) (λ r. inr (w .0, r .0, r .1))
       (past-unless-at 2 (partitionsFault (productOf l) p) a (w .1))
 
-  gives-two : (i : ℕ) → (a ≡ refuseAt 2 i → ⊥) → acceptedStamps l p a ≡ refuseAt 2 i ↔ TwoDue l p i
+  pub gives-two : (i : ℕ) → (a ≡ refuseAt 2 i → ⊥) → acceptedStamps l p a ≡ refuseAt 2 i ↔ TwoDue l p i
   gives-two i n = (λ h. ⊎-elim (λ f. f .1) (λ r. absurd (n (r .2))) (past-tables h), two-due i)
 
   good-tables : layoutOk l ≡ true → partitionsFault (productOf l) p ≡ none → acceptedStamps l p a ≡ a

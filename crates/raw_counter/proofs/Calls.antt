@@ -1,6 +1,6 @@
 -- What each way out of the two calls says of the answer, and of the counter afterwards.
 use Prim.Native.Nat.{ℕ, _+_, _-_}
-use mathlib.Core.Path.{_≡_, sym, _∙_, ap}
+use mathlib.Core.Path.{_≡_, _∙_, ap}
 use mathlib.Core.Bool.{true, _&&_}
 use lib.Dec.{leb}
 use Rattle.rules.specs.declared.Layout.{Layout}
@@ -22,11 +22,11 @@ use Rattle.raw_rules.specs.declared.RawAnswer.{RawAnswer}
 use Rattle.raw_rules.specs.declared.RawAnswer.the-variants as Raws
 use Rattle.raw_rules.specs.Counter.{rawDifference, resetRaw, notPast, readRaw, counterAfter, rawAnswer}
 
+pub count-answer : (a : RawAnswer) (e : ℕ) → a ≡ Raws.Count e → answer e ≡ rawAnswer a
+count-answer a e h = rw h
+
 -- the counter that an answer leaves
 module _ (c : RawCounter) (raw : ℕ) (a : RawAnswer) where
-  pub count-answer : (e : ℕ) → a ≡ Raws.Count e → answer e ≡ rawAnswer a
-  count-answer e h = rw h
-
   pub count-kept : (e : ℕ) → a ≡ Raws.Count e → record { started = true; raw = raw; count = e } ≡ counterAfter c raw (rawAnswer a)
   unfolding counterAfter
   count-kept e h = rw h

@@ -2,16 +2,14 @@
 use Prim.Native.Nat.{ℕ, _+_, _-_, _%_, _^_, _≤_, _<_}
 use mathlib.Core.Path.{_≡_}
 use mathlib.Core.Bool.{Bool, true, false, _&&_}
-use mathlib.Core.List.{List}
 use lib.Dec.{leb}
-use lib.ListN.{length}
 use native.Mathlib.Omega.{arith}
 use borrow.Author.Tests.{le-leb, lt-leb}
 use Rattle.base.proofs.Tests.{and-out-second}
 use Rattle.rules.specs.Answer.{Answer, answer, refuse, unless}
 use Rattle.raw_rules.specs.Counter.{rawNumbers, rawDifference, notPast}
 
--- what b added to wraps back to a is their difference
+-- the r that, added to `last`, wraps to `raw` is their difference
 pub wraps-back : (r raw last : ℕ) → r < rawNumbers → last < rawNumbers → (r + last) % 2 ^ 32 ≡ raw → r ≡ rawDifference raw last
 unfolding rawDifference
 wraps-back r raw last h k e = omega arith

@@ -1,19 +1,21 @@
 -- What an accepted reset and an accepted reading answer, and what a call leaves by its answer.
 use Prim.Native.Nat.{ℕ, _+_, _-_, _≤_}
-use mathlib.Core.Path.{_≡_, refl, sym, _∙_}
-use mathlib.Core.Bool.{Bool, true, false, _&&_}
+use mathlib.Core.Path.{_≡_, sym}
+use mathlib.Core.Bool.{true, _&&_}
 use lib.Dec.{leb}
 use native.Mathlib.Omega.{arith}
-use borrow.Author.Tests.{leb-true}
+use borrow.Author.Tests.{leb-true, le-leb}
 use Rattle.base.proofs.Tests.{and-first, and-second}
 use Rattle.base.proofs.Scans.{sum-up}
 use Rattle.rules.specs.declared.Layout.{Layout}
 use Rattle.rules.specs.declared.Refusal.{Refusal}
-use Rattle.rules.specs.Answer.{Answer, answer, refused, unless, unlessAt}
+use Rattle.rules.specs.Answer.{Answer, answer, refused, unless}
 use Rattle.rules.specs.Layout.{layoutOk, productOf}
-use Rattle.rules.specs.Partitions.{Partitions, partitionsIn, lengthOf, lengthsBefore, totalOf, partitionsFault}
+use Rattle.rules.specs.Partitions.{Partitions, partitionsIn, startOf, endOf, lengthOf, lengthsBefore, totalOf, partitionsFault, partitionsOk}
+use Rattle.rules.specs.Stamp.{holds, encodedIn, encodeNamed}
+use Rattle.rules.proofs.Accepted.{partitions-facts}
 use Rattle.rules.specs.Accepted.{acceptedStamps}
-use Rattle.rules.proofs.Answers.{payload, unless-test, unless-rest, unless-at-rest}
+use Rattle.rules.proofs.Answers.{payload, unless-test, unless-rest, unless-at-none, unless-at-rest}
 use Rattle.raw_rules.specs.declared.RawCounter.{RawCounter}
 use Rattle.raw_rules.specs.Counter.{rawDifference, resetRaw, notPast, readRaw, counterAfter}
 
@@ -36,6 +38,20 @@ module _ (l : Layout) (p : Partitions) where
         let there = unless-test 10 (leb 1 number && leb number (partitionsIn p)) _ e named in
         let few = leb-true number (partitionsIn p) (and-second (leb 1 number) _ there) in
         rw reset-count (sum-up (lengthOf p) (number - 1) (partitionsIn p) (omega (arith, few)))
+
+    no-fault : partitionsOk (productOf l) p ≡ true
+    unfolding resetRaw
+    no-fault = rw (unless-at-none 2 (partitionsFault (productOf l) p) _ e (unless-rest 1 (layoutOk l) _ e h))
+
+    pub reset-start : encodeNamed p number (startOf p (number - 1)) ≡ answer e
+    unfolding encodeNamed unless holds encodedIn
+    reset-start =
+        let there = unless-test 10 (leb 1 number && leb number (partitionsIn p)) _ e named in
+        let low = leb-true 1 number (and-first (leb 1 number) _ there) in
+        let few = leb-true number (partitionsIn p) (and-second (leb 1 number) _ there) in
+        let ordered = partitions-facts (productOf l) p no-fault .each (number - 1) (omega (arith, low, few)) .ordered in
+        let start : lengthsBefore p (number - 1) + (startOf p (number - 1) - startOf p (number - 1)) ≡ e = omega (arith, reset-count) in
+        rw (there, le-leb (startOf p (number - 1)) (startOf p (number - 1)) (omega arith), le-leb (startOf p (number - 1)) (endOf p (number - 1)) (omega (arith, ordered)), start)
 
   module _ (c : RawCounter) (raw e : ℕ) (h : readRaw l p c raw ≡ answer e) where
     after-tables : unless 27 (c .started) (notPast (totalOf p) (c .count + rawDifference raw (c .raw))) ≡ answer e

@@ -1,38 +1,28 @@
 -- After any list of calls: by induction on the list, one call at a time.
-use Prim.Native.Nat.{ℕ, _+_, _-_, _%_, _≤_, _<_}
-use mathlib.Core.Path.{_≡_, refl, sym, _∙_, ap}
-use mathlib.Core.Bool.{Bool, true, false, _&&_, _||_, cond}
+use Prim.Native.Nat.{ℕ, _+_, _-_, _≤_}
+use mathlib.Core.Path.{_≡_, refl, _∙_, ap}
+use mathlib.Core.Bool.{true, false}
 use mathlib.Core.List.{List, [], _∷_, _++_, map}
-use lib.Dec.{leb, ltb}
 use native.Mathlib.Omega.{arith}
 use borrow.Author.Tests.{leb-true, ltb-true}
-use Rattle.base.proofs.Tests.{by-test, not-both, and-first, and-second}
+use Rattle.base.proofs.Tests.{by-test, not-both, and-first, and-second, or-only-first, neither-first, neither-second}
 use Rattle.rules.specs.declared.Layout.{Layout}
 use Rattle.rules.specs.declared.Refusal.{Refusal}
 use Rattle.rules.specs.Answer.{Answer, answer, refused}
 use Rattle.rules.specs.Partitions.{Partitions, lengthsBefore}
 use Rattle.raw_rules.specs.declared.RawCounter.{RawCounter}
-use Rattle.raw_rules.specs.Counter.{rawNumbers, rawDifference, resetRaw, readRaw, counterAfter}
-use Rattle.raw_rules.specs.Calls.{Call, reset, read, rawOf, answerTo, afterCall, afterCalls}
-use Rattle.raw_outcomes.specs.History.{isAccepted, isReset, someReset, readingOf, readings, differences, lastFrom, counted, Around, resetIn, callsOf, resetTaken, resetSince, LastReset, readingsSince, resetStart, low, eachNext, countsUp, movesLess, Track, Hypothesis, reset-low, readings-low, rises, short, Says, movedBy, addedUp, trackOf, History}
-use Rattle.raw_outcomes.proofs.Answers.{reset-count, reset-within, read-started, read-count, read-within, left-refused, left-answer}
+use Rattle.raw_rules.specs.Counter.{rawDifference, resetRaw, readRaw, counterAfter}
+use Rattle.raw_rules.specs.Calls.{Call, reset, read, rawOf, callAnswer, afterCall, afterCalls}
+use Rattle.raw_outcomes.specs.History.{isAccepted, isAcceptedReset, someAcceptedReset, acceptedRaw, acceptedRaws, differences, lastFrom, counted, Around, resetIn, callsOf, resetAccepted, resetSince, LastReset, acceptedSince, resetStart, low, eachNext, countsUp, movesLess, Track, Hypothesis, reset-low, readings-low, rises, short, Says, movedBy, addedUp, trackOf, History}
+use Rattle.raw_outcomes.proofs.Answers.{reset-count, reset-start, reset-within, read-started, read-count, read-within, left-refused, left-answer}
 
--- of two tests of which one holds
-or-false-first : (a b : Bool) → (a || b) ≡ false → a ≡ false
-or-false-first true b h = h
-or-false-first false b h = refl
-
-or-false-second : (a b : Bool) → (a || b) ≡ false → b ≡ false
-or-false-second true b h = absurd (not-both refl h)
-or-false-second false b h = h
-
-refused-call : (c : RawCounter) (x : Call) (k : Refusal) → answerTo c x ≡ refused k → afterCall c x ≡ c
+refused-call : (c : RawCounter) (x : Call) (k : Refusal) → callAnswer c x ≡ refused k → afterCall c x ≡ c
 unfolding afterCall
-refused-call c x k h = left-refused c (rawOf x) (answerTo c x) k h
+refused-call c x k h = left-refused c (rawOf x) (callAnswer c x) k h
 
 -- a reset that is not accepted leaves the counter
-reset-leaves : (c : RawCounter) (l : Layout) (p : Partitions) (number raw : ℕ) → isReset (reset l p number raw) ≡ false → afterCall c (reset l p number raw) ≡ c
-unfolding isReset answerTo
+reset-leaves : (c : RawCounter) (l : Layout) (p : Partitions) (number raw : ℕ) → isAcceptedReset (reset l p number raw) ≡ false → afterCall c (reset l p number raw) ≡ c
+unfolding isAcceptedReset callAnswer
 reset-leaves c l p number raw h = by-answer (resetRaw l p number) refl h
   where
     by-answer : (a : Answer ℕ) → resetRaw l p number ≡ a → isAccepted a ≡ false → afterCall c (reset l p number raw) ≡ c
@@ -44,7 +34,7 @@ at-rest : (c : RawCounter) → c .started ≡ true → c ≡ counted (c .raw) (c
 unfolding counted lastFrom differences
 at-rest c h = let e : c .count + 0 ≡ c .count = omega arith in rw (e, ← h) refl
 
--- readings behind readings
+-- raw numbers behind raw numbers
 lastFrom-behind : (last : ℕ) (rs ss : List ℕ) → lastFrom (lastFrom last rs) ss ≡ lastFrom last (rs ++ ss)
 unfolding lastFrom
 lastFrom-behind last [] ss = refl
@@ -62,28 +52,28 @@ counted-behind last e rs ss =
     rw (lastFrom-behind last rs ss, sum)
 
 -- one reading, accepted or not, on a counter that has had a reset
-read-step : (c : RawCounter) (l : Layout) (p : Partitions) (raw : ℕ) → c .started ≡ true → afterCall c (read l p raw) ≡ counted (c .raw) (c .count) (readingOf c (read l p raw))
-unfolding afterCall answerTo readingOf counted lastFrom differences
+read-step : (c : RawCounter) (l : Layout) (p : Partitions) (raw : ℕ) → c .started ≡ true → afterCall c (read l p raw) ≡ counted (c .raw) (c .count) (acceptedRaw c (read l p raw))
+unfolding afterCall callAnswer acceptedRaw counted lastFrom differences
 read-step c l p raw h = by-answer (readRaw l p c raw) refl
   where
-    by-answer : (a : Answer ℕ) → readRaw l p c raw ≡ a → counterAfter c raw (readRaw l p c raw) ≡ counted (c .raw) (c .count) (cond (isAccepted (readRaw l p c raw)) (raw ∷ []) [])
+    by-answer : (a : Answer ℕ) → readRaw l p c raw ≡ a → counterAfter c raw (readRaw l p c raw) ≡ counted (c .raw) (c .count) (acceptedRaw c (read l p raw))
     by-answer (answer e) q =
         let sum : e ≡ c .count + (rawDifference raw (c .raw) + 0) = omega (arith, read-count l p c raw e q) in
         left-answer c raw (readRaw l p c raw) e q ∙ rw (q, sum)
     by-answer (refused k) q = left-refused c raw (readRaw l p c raw) k q ∙ rw q (at-rest c h)
 
 -- one call that is no accepted reset
-one-step : (c : RawCounter) (x : Call) → c .started ≡ true → isReset x ≡ false → afterCall c x ≡ counted (c .raw) (c .count) (readingOf c x)
-unfolding readingOf
+one-step : (c : RawCounter) (x : Call) → c .started ≡ true → isAcceptedReset x ≡ false → afterCall c x ≡ counted (c .raw) (c .count) (acceptedRaw c x)
+unfolding acceptedRaw
 one-step c (reset l p number raw) h n = reset-leaves c l p number raw n ∙ at-rest c h
 one-step c (read l p raw) h n = read-step c l p raw h
 
-goes-on : (c : RawCounter) (calls : List Call) → c .started ≡ true → someReset calls ≡ false → afterCalls c calls ≡ counted (c .raw) (c .count) (readings c calls)
-unfolding afterCalls readings someReset counted
+goes-on : (c : RawCounter) (calls : List Call) → c .started ≡ true → someAcceptedReset calls ≡ false → afterCalls c calls ≡ counted (c .raw) (c .count) (acceptedRaws c calls)
+unfolding afterCalls acceptedRaws someAcceptedReset counted
 goes-on c [] h n = at-rest c h
 goes-on c (x ∷ xs) h n =
-    let step = one-step c x h (or-false-first (isReset x) (someReset xs) n) in
-    goes-on (afterCall c x) xs (on (afterCall c x) _ step) (or-false-second (isReset x) (someReset xs) n) ∙ joined (afterCall c x) (readings (afterCall c x) xs) _ step
+    let step = one-step c x h (neither-first (isAcceptedReset x) (someAcceptedReset xs) n) in
+    goes-on (afterCall c x) xs (on (afterCall c x) _ step) (neither-second (isAcceptedReset x) (someAcceptedReset xs) n) ∙ joined (afterCall c x) (acceptedRaws (afterCall c x) xs) _ step
   where
     on : (d : RawCounter) (rs : List ℕ) → d ≡ counted (c .raw) (c .count) rs → d .started ≡ true
     on d rs e = rw e
@@ -92,8 +82,8 @@ goes-on c (x ∷ xs) h n =
     joined d ss rs e = rw e (counted-behind (c .raw) (c .count) rs ss)
 
 -- a counter that has had no reset refuses every reading
-unstarted-step : (c : RawCounter) (x : Call) → c .started ≡ false → isReset x ≡ false → afterCall c x ≡ c
-unfolding answerTo
+unstarted-step : (c : RawCounter) (x : Call) → c .started ≡ false → isAcceptedReset x ≡ false → afterCall c x ≡ c
+unfolding callAnswer
 unstarted-step c (reset l p number raw) h n = reset-leaves c l p number raw n
 unstarted-step c (read l p raw) h n = by-answer (readRaw l p c raw) refl
   where
@@ -101,12 +91,12 @@ unstarted-step c (read l p raw) h n = by-answer (readRaw l p c raw) refl
     by-answer (answer e) q = absurd (not-both (read-started l p c raw e q) h)
     by-answer (refused k) q = refused-call c (read l p raw) k q
 
-stays : (c : RawCounter) (calls : List Call) → c .started ≡ false → someReset calls ≡ false → afterCalls c calls ≡ c
-unfolding afterCalls someReset
+stays : (c : RawCounter) (calls : List Call) → c .started ≡ false → someAcceptedReset calls ≡ false → afterCalls c calls ≡ c
+unfolding afterCalls someAcceptedReset
 stays c [] h n = refl
 stays c (x ∷ xs) h n =
-    let same = unstarted-step c x h (or-false-first (isReset x) (someReset xs) n) in
-    rw same (stays c xs h (or-false-second (isReset x) (someReset xs) n))
+    let same = unstarted-step c x h (neither-first (isAcceptedReset x) (someAcceptedReset xs) n) in
+    rw same (stays c xs h (neither-second (isAcceptedReset x) (someAcceptedReset xs) n))
 
 -- the calls before the reset, then the reset, then those since
 behind : (c : RawCounter) (xs ys : List Call) → afterCalls c (xs ++ ys) ≡ afterCalls (afterCalls c xs) ys
@@ -115,25 +105,25 @@ behind c [] ys = refl
 behind c (x ∷ xs) ys = behind (afterCall c x) xs ys
 
 -- an accepted reset starts again at its start
-reset-step : (c : RawCounter) (l : Layout) (p : Partitions) (number raw : ℕ) → isReset (reset l p number raw) ≡ true
+reset-step : (c : RawCounter) (l : Layout) (p : Partitions) (number raw : ℕ) → isAcceptedReset (reset l p number raw) ≡ true
     → afterCall c (reset l p number raw) ≡ record { started = true; raw = raw; count = lengthsBefore p (number - 1) }
-unfolding isReset afterCall answerTo
+unfolding isAcceptedReset afterCall callAnswer
 reset-step c l p number raw h = by-answer (resetRaw l p number) refl h
   where
     by-answer : (a : Answer ℕ) → resetRaw l p number ≡ a → isAccepted a ≡ true → counterAfter c raw (resetRaw l p number) ≡ record { started = true; raw = raw; count = lengthsBefore p (number - 1) }
     by-answer (answer e) q t = left-answer c raw (resetRaw l p number) e q ∙ rw (reset-count l p number e q)
     by-answer (refused k) q t = absurd (not-both t refl)
 
-around-count : (c : RawCounter) (s : Around) → resetTaken s ≡ true → resetSince s ≡ false → afterCalls c (callsOf s) ≡ counted (s .raw) (resetStart s) (readingsSince c s)
-unfolding callsOf readingsSince afterCalls
+around-count : (c : RawCounter) (s : Around) → resetAccepted s ≡ true → resetSince s ≡ false → afterCalls c (callsOf s) ≡ counted (s .raw) (resetStart s) (acceptedSince c s)
+unfolding callsOf acceptedSince afterCalls
 around-count c s taken last =
     behind c (s .before) (resetIn s ∷ s .since)
     ∙ on (afterCall (afterCalls c (s .before)) (resetIn s)) (reset-step (afterCalls c (s .before)) (s .layout) (s .partitions) (s .number) (s .raw) taken)
   where
-    on : (d : RawCounter) → d ≡ record { started = true; raw = s .raw; count = resetStart s } → afterCalls d (s .since) ≡ counted (s .raw) (resetStart s) (readings d (s .since))
+    on : (d : RawCounter) → d ≡ record { started = true; raw = s .raw; count = resetStart s } → afterCalls d (s .since) ≡ counted (s .raw) (resetStart s) (acceptedRaws d (s .since))
     on d e = goes-on d (s .since) (rw e) last ∙ rw e
 
-count : (c : RawCounter) (calls : List Call) (r : LastReset calls) → afterCalls c calls ≡ counted (r .around .raw) (resetStart (r .around)) (readingsSince c (r .around))
+count : (c : RawCounter) (calls : List Call) (r : LastReset calls) → afterCalls c calls ≡ counted (r .around .raw) (resetStart (r .around)) (acceptedSince c (r .around))
 count c calls r = rw (r .whole) (around-count c (r .around) (r .taken) (r .last))
 
 -- of a list with an accepted reset, the last one
@@ -148,23 +138,19 @@ preceded x r =
       last = r .last;
     }
 
-this-one : (x : Call) (xs : List Call) → isReset x ≡ true → someReset xs ≡ false → LastReset (x ∷ xs)
-unfolding isReset callsOf
+this-one : (x : Call) (xs : List Call) → isAcceptedReset x ≡ true → someAcceptedReset xs ≡ false → LastReset (x ∷ xs)
+unfolding isAcceptedReset callsOf
 this-one (reset l p number raw) xs t n =
     record { around = record { before = []; layout = l; partitions = p; number = number; raw = raw; since = xs }; whole = refl; taken = t; last = n }
 this-one (read l p raw) xs t n = absurd (not-both t refl)
 
-or-true-first : (a b : Bool) → (a || b) ≡ true → b ≡ false → a ≡ true
-or-true-first true b h n = refl
-or-true-first false b h n = absurd (not-both h n)
-
-last-reset : (calls : List Call) → someReset calls ≡ true → LastReset calls
-unfolding someReset
+last-reset : (calls : List Call) → someAcceptedReset calls ≡ true → LastReset calls
+unfolding someAcceptedReset
 last-reset [] t = absurd (not-both t refl)
 last-reset (x ∷ xs) t =
-    by-test (someReset xs)
+    by-test (someAcceptedReset xs)
     (λ later. preceded x (last-reset xs later))
-    (λ none. this-one x xs (or-true-first (isReset x) (someReset xs) t none) none)
+    (λ none. this-one x xs (or-only-first (isAcceptedReset x) (someAcceptedReset xs) t none) none)
 
 ruleset tests = (leb-true, ltb-true)
 
@@ -197,12 +183,12 @@ all-moves n (m ∷ ms) up less =
     (all-moves m ms later (and-second (movesLess n m) _ less))
 
 moved : (t : Track) → ((h : Hypothesis) → Says t h) → addedUp t ≡ movedBy t
-moved t says = rw (says reset-low, says readings-low) (all-moves (t .stood) (t .stands) (says rises) (says short))
+moved t says = rw (says reset-low, says readings-low) (all-moves (t .atReset) (t .atReadings) (says rises) (says short))
 
-true-count : (c : RawCounter) (calls : List Call) (r : LastReset calls) (stood : ℕ) (stands : List ℕ) → ((h : Hypothesis) → Says (trackOf c (r .around) stood stands) h)
-    → afterCalls c calls .count ≡ resetStart (r .around) + (lastFrom stood stands - stood)
+true-count : (c : RawCounter) (calls : List Call) (r : LastReset calls) (atReset : ℕ) (atReadings : List ℕ) → ((h : Hypothesis) → Says (trackOf c (r .around) atReset atReadings) h)
+    → afterCalls c calls .count ≡ resetStart (r .around) + movedBy (trackOf c (r .around) atReset atReadings)
 unfolding counted
-true-count c calls r stood stands says = rw (count c calls r, moved (trackOf c (r .around) stood stands) says)
+true-count c calls r atReset atReadings says = rw (count c calls r, moved (trackOf c (r .around) atReset atReadings) says)
 
 pub history : History
 history =
@@ -214,6 +200,7 @@ history =
       goes-on = goes-on;
       stays = stays;
       refused-leaves = refused-call;
+      reset-start = reset-start;
       reset-within = reset-within;
       read-within = read-within;
     }

@@ -3,3 +3,4 @@ pub mod Answers
 pub mod History
 pub mod Needed
 pub mod Subticks
+pub mod Rows

@@ -7,9 +7,10 @@ use native.Mathlib.Omega.{arith}
 use Rattle.base.proofs.Tests.{not-both}
 use Rattle.rules.specs.Computing.{computing}
 use Rattle.rules.specs.Examples.{layoutA, partitionsA}
+use Rattle.raw_rules.specs.Examples.{longLayout, longPartitions}
 use Rattle.raw_rules.specs.Counter.{rawDifference, resetRaw, notPast, readRaw, counterAfter}
-use Rattle.raw_rules.specs.Calls.{answerTo, afterCall, afterCalls}
-use Rattle.raw_outcomes.specs.History.{isReset, someReset, readingOf, readings, differences, lastFrom, counted, callsOf, readingsSince, eachNext, Hypothesis, reset-low, readings-low, rises, short, Says}
+use Rattle.raw_rules.specs.Calls.{callAnswer, afterCall, afterCalls}
+use Rattle.raw_outcomes.specs.History.{isAcceptedReset, someAcceptedReset, acceptedRaw, acceptedRaws, differences, lastFrom, counted, callsOf, acceptedSince, eachNext, Hypothesis, reset-low, readings-low, rises, short, Says}
 use Rattle.raw_outcomes.specs.Needed.{breaking, Needed, rolling, Met, ResetNeeded}
 
 -- the only number of two lists of one
@@ -17,7 +18,7 @@ only-number : {a b : ℕ} → _≡_ {A = List ℕ} (a ∷ []) (b ∷ []) → a �
 only-number h = ap (λ xs. getD xs 0 0) h
 
 pub needed : (h : Hypothesis) → Needed h (breaking h)
-unfolding breaking differences lastFrom eachNext rawDifference
+unfolding computing longLayout longPartitions resetRaw notPast readRaw counterAfter callAnswer afterCall afterCalls acceptedRaw acceptedRaws acceptedSince breaking differences lastFrom eachNext rawDifference
 needed reset-low = record { others = others; broken = λ e. omega (arith, e); fails = λ e. omega (arith, e) }
   where
     others : (k : Hypothesis) → (k ≡ reset-low → ⊥) → Says (breaking reset-low) k
@@ -48,7 +49,7 @@ needed short = record { others = others; broken = λ e. not-both e refl; fails =
     others short n = absurd (n refl)
 
 pub met : Met
-unfolding rolling differences lastFrom eachNext rawDifference
+unfolding computing longLayout longPartitions resetRaw notPast readRaw counterAfter callAnswer afterCall afterCalls acceptedRaw acceptedRaws acceptedSince rolling differences lastFrom eachNext rawDifference
 met = record { says = says; adds-up = refl; moved = refl }
   where
     says : (h : Hypothesis) → Says rolling h
@@ -58,5 +59,5 @@ met = record { says = says; adds-up = refl; moved = refl }
     says short = refl
 
 pub reset-needed : ResetNeeded
-unfolding computing layoutA partitionsA rawDifference resetRaw notPast readRaw counterAfter answerTo afterCall afterCalls isReset someReset readingOf readings differences lastFrom counted callsOf readingsSince
-reset-needed = record { not-taken = (refl, refl); not-taken-count = (refl, refl); not-last = (refl, refl); not-last-count = (refl, refl) }
+unfolding computing layoutA partitionsA rawDifference resetRaw notPast readRaw counterAfter callAnswer afterCall afterCalls isAcceptedReset someAcceptedReset acceptedRaw acceptedRaws differences lastFrom counted callsOf acceptedSince
+reset-needed = record { not-accepted = (refl, refl); not-accepted-count = (refl, refl); not-last = (refl, refl); not-last-count = (refl, refl) }

@@ -8,9 +8,9 @@ use Rattle.base.specs.Rounding.{roundDown}
 use Rattle.base.proofs.Tests.{by-test}
 use Rattle.rules.specs.Answer.{answer, unless}
 use Rattle.rules.proofs.Answers.{payload, unless-test}
-use Rattle.raw_rules.specs.Seconds.{largestMicrosecond, subtickOf, carried, readSeconds}
-use Rattle.raw_rules.proofs.Seconds.{carried-sum}
-use Rattle.raw_outcomes.specs.Subticks.{NearestSubtick, firstCarried, Subticks}
+use Rattle.raw_rules.specs.Seconds.{largestMicrosecond, subtickOf, withCarry, readSeconds}
+use Rattle.raw_rules.proofs.Seconds.{carry-sum}
+use Rattle.raw_outcomes.specs.Subticks.{Nearest, NearestSubtick, firstCarried, HalfUp, Subticks}
 
 nearest : (us : ℕ) → NearestSubtick us (subtickOf us)
 unfolding subtickOf roundDown
@@ -22,7 +22,7 @@ only us n h = omega (arith, h .from, h .below)
 
 count : (seconds us : ℕ) → us ≤ largestMicrosecond → readSeconds seconds us ≡ answer (seconds * 256 + subtickOf us)
 unfolding readSeconds unless
-count seconds us h = rw (le-leb us largestMicrosecond h, carried-sum seconds (subtickOf us))
+count seconds us h = rw (le-leb us largestMicrosecond h, carry-sum seconds (subtickOf us))
 
 -- from there on the subtick is 256, before it it is less
 at-carry : (us : ℕ) → us ≤ largestMicrosecond → firstCarried ≤ us → subtickOf us ≡ 256
@@ -42,7 +42,7 @@ carries us h =
 module _ (seconds us e : ℕ) (h : readSeconds seconds us ≡ answer e) where
   in-range : us ≤ largestMicrosecond
   unfolding readSeconds
-  in-range = leb-true us largestMicrosecond (unless-test 24 (leb us largestMicrosecond) (answer (carried seconds (subtickOf us))) e h)
+  in-range = leb-true us largestMicrosecond (unless-test 24 (leb us largestMicrosecond) (answer (withCarry seconds (subtickOf us))) e h)
 
   sum : e ≡ seconds * 256 + subtickOf us
   sum = payload (sym h ∙ count seconds us in-range)
@@ -52,6 +52,9 @@ module _ (seconds us e : ℕ) (h : readSeconds seconds us ≡ answer e) where
 
   plain-seconds : us < firstCarried → (e / 256 ≡ seconds) × (e % 256 ≡ subtickOf us)
   plain-seconds k = (omega (arith, sum, before-carry us k), omega (arith, sum, before-carry us k))
+
+pub half-up : HalfUp
+half-up = record { up = record { from = omega arith; below = omega arith }; not-down = λ h. absurd (omega (arith, h .below)); no-half = λ us n e. absurd (omega (arith, e)) }
 
 pub subticks : Subticks
 subticks = record { nearest = nearest; only = only; count = count; carries = carries; carried-seconds = carried-seconds; plain-seconds = plain-seconds }

@@ -7,33 +7,34 @@ use lib.Dec.{leb, ltb}
 use Rattle.rules.specs.declared.Layout.{Layout}
 use Rattle.rules.specs.declared.Refusal.{Refusal}
 use Rattle.rules.specs.Answer.{Answer, answer, refused}
-use Rattle.rules.specs.Partitions.{Partitions, lengthsBefore, totalOf}
+use Rattle.rules.specs.Partitions.{Partitions, startOf, lengthsBefore, totalOf}
+use Rattle.rules.specs.Stamp.{encodeNamed}
 use Rattle.raw_rules.specs.declared.RawCounter.{RawCounter}
 use Rattle.raw_rules.specs.Counter.{rawNumbers, rawDifference, resetRaw, readRaw}
-use Rattle.raw_rules.specs.Calls.{Call, reset, read, answerTo, afterCall, afterCalls}
+use Rattle.raw_rules.specs.Calls.{Call, reset, read, callAnswer, afterCall, afterCalls}
 
 abbrev pub isAccepted : Answer ℕ → Bool
 isAccepted (answer e) = true
 isAccepted (refused k) = false
 
 -- "an accepted reset": the counter has no part in it
-unfoldable pub isReset : Call → Bool
-isReset (reset l p number raw) = isAccepted (resetRaw l p number)
-isReset (read l p raw) = false
+unfoldable pub isAcceptedReset : Call → Bool
+isAcceptedReset (reset l p number raw) = isAccepted (resetRaw l p number)
+isAcceptedReset (read l p raw) = false
 
-unfoldable pub someReset : List Call → Bool
-someReset [] = false
-someReset (x ∷ xs) = isReset x || someReset xs
+unfoldable pub someAcceptedReset : List Call → Bool
+someAcceptedReset [] = false
+someAcceptedReset (x ∷ xs) = isAcceptedReset x || someAcceptedReset xs
 
 -- the raw number of an accepted reading
-unfoldable pub readingOf : RawCounter → Call → List ℕ
-readingOf c (reset l p number raw) = []
-readingOf c (read l p raw) = cond (isAccepted (readRaw l p c raw)) (raw ∷ []) []
+unfoldable pub acceptedRaw : RawCounter → Call → List ℕ
+acceptedRaw c (reset l p number raw) = []
+acceptedRaw c (read l p raw) = cond (isAccepted (readRaw l p c raw)) (raw ∷ []) []
 
 -- "the readings accepted", by their raw numbers, in order
-unfoldable pub readings : RawCounter → List Call → List ℕ
-readings c [] = []
-readings c (x ∷ xs) = readingOf c x ++ readings (afterCall c x) xs
+unfoldable pub acceptedRaws : RawCounter → List Call → List ℕ
+acceptedRaws c [] = []
+acceptedRaws c (x ∷ xs) = acceptedRaw c x ++ acceptedRaws (afterCall c x) xs
 
 -- "the differences of the readings", added up: each from the raw number before it, the first from `last`
 unfoldable pub differences : ℕ → List ℕ → ℕ
@@ -45,7 +46,7 @@ unfoldable pub lastFrom : ℕ → List ℕ → ℕ
 lastFrom n [] = n
 lastFrom n (m ∷ ms) = lastFrom m ms
 
--- the counter that stands `raws` further than raw number `last` and count e
+-- the counter after the raw numbers `raws`, from raw number `last` and count e
 unfoldable pub counted : ℕ → ℕ → List ℕ → RawCounter
 counted last e raws = record { started = true; raw = lastFrom last raws; count = e + differences last raws }
 
@@ -65,21 +66,21 @@ unfoldable pub callsOf : Around → List Call
 callsOf s = s .before ++ (resetIn s ∷ s .since)
 
 -- "the last such reset": it is accepted, and none since is
-abbrev pub resetTaken : Around → Bool
-resetTaken s = isReset (resetIn s)
+abbrev pub resetAccepted : Around → Bool
+resetAccepted s = isAcceptedReset (resetIn s)
 
 abbrev pub resetSince : Around → Bool
-resetSince s = someReset (s .since)
+resetSince s = someAcceptedReset (s .since)
 
 pub record LastReset (calls : List Call) : Type 0 where
   pub around : Around
   pub whole : calls ≡ callsOf around
-  pub taken : resetTaken around ≡ true
+  pub taken : resetAccepted around ≡ true
   pub last : resetSince around ≡ false
 
 -- "the readings accepted since", where the list is asked of the counter c
-unfoldable pub readingsSince : RawCounter → Around → List ℕ
-readingsSince c s = readings (afterCall (afterCalls c (s .before)) (resetIn s)) (s .since)
+unfoldable pub acceptedSince : RawCounter → Around → List ℕ
+acceptedSince c s = acceptedRaws (afterCall (afterCalls c (s .before)) (resetIn s)) (s .since)
 
 -- "the last such reset's start": the encoded count of its partition's start
 abbrev pub resetStart : Around → ℕ
@@ -105,8 +106,8 @@ movesLess n m = ltb (m - n) rawNumbers
 pub record Track : Type 0 where
   pub raw : ℕ
   pub raws : List ℕ
-  pub stood : ℕ
-  pub stands : List ℕ
+  pub atReset : ℕ
+  pub atReadings : List ℕ
 
 pub data Hypothesis : Type 0 where
   reset-low : Hypothesis
@@ -116,37 +117,39 @@ pub data Hypothesis : Type 0 where
 
 -- "a true counter (a natural number whose low 32 bits are the raw numbers)", and how it moved
 abbrev pub Says : Track → Hypothesis → Type 0
-Says t reset-low = t .raw ≡ low (t .stood)
-Says t readings-low = t .raws ≡ map low (t .stands)
-Says t rises = eachNext countsUp (t .stood) (t .stands) ≡ true
-Says t short = eachNext movesLess (t .stood) (t .stands) ≡ true
+Says t reset-low = t .raw ≡ low (t .atReset)
+Says t readings-low = t .raws ≡ map low (t .atReadings)
+Says t rises = eachNext countsUp (t .atReset) (t .atReadings) ≡ true
+Says t short = eachNext movesLess (t .atReset) (t .atReadings) ≡ true
 
 -- "what it moved"
 abbrev pub movedBy : Track → ℕ
-movedBy t = lastFrom (t .stood) (t .stands) - t .stood
+movedBy t = lastFrom (t .atReset) (t .atReadings) - t .atReset
 
 abbrev pub addedUp : Track → ℕ
 addedUp t = differences (t .raw) (t .raws)
 
 -- the reset of a list of calls and the readings since, and where a true counter stood at each
 abbrev pub trackOf : RawCounter → Around → ℕ → List ℕ → Track
-trackOf c s stood stands = record { raw = s .raw; raws = readingsSince c s; stood = stood; stands = stands }
+trackOf c s atReset atReadings = record { raw = s .raw; raws = acceptedSince c s; atReset = atReset; atReadings = atReadings }
 
 pub record History : Type 0 where
   -- "with an accepted reset among them" one is the last
-  pub last-reset : (calls : List Call) → someReset calls ≡ true → LastReset calls
+  pub last-reset : (calls : List Call) → someAcceptedReset calls ≡ true → LastReset calls
   -- "the count equals the last such reset's start plus the differences of the readings accepted since", from any counter c
-  pub count : (c : RawCounter) (calls : List Call) (r : LastReset calls) → afterCalls c calls ≡ counted (r .around .raw) (resetStart (r .around)) (readingsSince c (r .around))
+  pub count : (c : RawCounter) (calls : List Call) (r : LastReset calls) → afterCalls c calls ≡ counted (r .around .raw) (resetStart (r .around)) (acceptedSince c (r .around))
   -- "they add up to what it moved"
   pub moved : (t : Track) → ((h : Hypothesis) → Says t h) → addedUp t ≡ movedBy t
   -- both together
-  pub true-count : (c : RawCounter) (calls : List Call) (r : LastReset calls) (stood : ℕ) (stands : List ℕ) → ((h : Hypothesis) → Says (trackOf c (r .around) stood stands) h)
-      → afterCalls c calls .count ≡ resetStart (r .around) + (lastFrom stood stands - stood)
+  pub true-count : (c : RawCounter) (calls : List Call) (r : LastReset calls) (atReset : ℕ) (atReadings : List ℕ) → ((h : Hypothesis) → Says (trackOf c (r .around) atReset atReadings) h)
+      → afterCalls c calls .count ≡ resetStart (r .around) + movedBy (trackOf c (r .around) atReset atReadings)
   -- without an accepted reset: a counter that has had one goes on, one that has not stays
-  pub goes-on : (c : RawCounter) (calls : List Call) → c .started ≡ true → someReset calls ≡ false → afterCalls c calls ≡ counted (c .raw) (c .count) (readings c calls)
-  pub stays : (c : RawCounter) (calls : List Call) → c .started ≡ false → someReset calls ≡ false → afterCalls c calls ≡ c
+  pub goes-on : (c : RawCounter) (calls : List Call) → c .started ≡ true → someAcceptedReset calls ≡ false → afterCalls c calls ≡ counted (c .raw) (c .count) (acceptedRaws c calls)
+  pub stays : (c : RawCounter) (calls : List Call) → c .started ≡ false → someAcceptedReset calls ≡ false → afterCalls c calls ≡ c
   -- "A refused reading or reset leaves the state."
-  pub refused-leaves : (c : RawCounter) (x : Call) (k : Refusal) → answerTo c x ≡ refused k → afterCall c x ≡ c
+  pub refused-leaves : (c : RawCounter) (x : Call) (k : Refusal) → callAnswer c x ≡ refused k → afterCall c x ≡ c
+  -- "starts again at its start": what 01 encodes the start of that partition to
+  pub reset-start : (l : Layout) (p : Partitions) (number e : ℕ) → resetRaw l p number ≡ answer e → encodeNamed p number (startOf p (number - 1)) ≡ answer e
   -- an answer is an encoded count of the call's table: count to time and printing do not refuse it 12
   pub reset-within : (l : Layout) (p : Partitions) (number e : ℕ) → resetRaw l p number ≡ answer e → e ≤ totalOf p
   pub read-within : (l : Layout) (p : Partitions) (c : RawCounter) (raw e : ℕ) → readRaw l p c raw ≡ answer e → e ≤ totalOf p

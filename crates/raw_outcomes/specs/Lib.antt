@@ -3,3 +3,4 @@ pub mod Refusals
 pub mod History
 pub mod Needed
 pub mod Subticks
+pub mod Rows

@@ -1,4 +1,4 @@
--- The exact set of refusals of each call, in their order, of which 2 has a place. proofs/Refusals.antt shows that no other is given; here a call gives each.
+-- The exact set of refusals of each call, of which 2 has a place. proofs/Refusals.antt shows that no other is given; here a call gives each.
 use Prim.Native.Nat.{ℕ}
 use mathlib.Core.Path.{refl}
 use mathlib.Core.List.{List, [], _∷_}
@@ -12,7 +12,7 @@ use Rattle.outcomes.specs.Refusals.{hasPlace, OnlyRefuses}
 use Rattle.outcomes.specs.Given.{Given}
 use Rattle.raw_rules.specs.declared.RawCounter.{RawCounter}
 use Rattle.raw_rules.specs.Counter.{rawDifference, resetRaw, notPast, readRaw}
-use Rattle.raw_rules.specs.Seconds.{subtickOf, carried, readSeconds}
+use Rattle.raw_rules.specs.Seconds.{subtickOf, withCarry, readSeconds}
 use Rattle.raw_rules.specs.Examples.{new, at}
 
 unfoldable pub resetRefusals : List ℕ
@@ -42,5 +42,5 @@ pub refusals-given :
     (readSeconds 0 1_000_000 ∷ [])
     (numbered 24 ∷ [])
     secondsRefusals
-unfolding computing layoutA partitionsA noLayout noPartitions rawDifference resetRaw notPast readRaw subtickOf carried readSeconds resetRefusals readRefusals secondsRefusals
+unfolding computing layoutA partitionsA noLayout noPartitions rawDifference resetRaw notPast readRaw subtickOf withCarry readSeconds resetRefusals readRefusals secondsRefusals
 refusals-given = ((refl, refl), (refl, refl), (refl, refl))

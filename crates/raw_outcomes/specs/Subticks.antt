@@ -5,7 +5,7 @@ use lib.Dec.{leb, eqb}
 use Rattle.rules.specs.Answer.{answer}
 use Rattle.raw_rules.specs.Seconds.{largestMicrosecond, subtickOf, readSeconds}
 
--- "round() - rounds range [N.5 to {N+1}.5) to {N+1}": n is the nearest whole number to x / d, half up. Both sides of n - ½ ≤ x / d < n + ½ are taken 2×d times.
+-- "round() - rounds range [N.5 to {N+1}.5) to {N+1}": n is the nearest whole number to x / d, half up. That is n - ½ ≤ x / d < n + ½, here multiplied by 2×d.
 pub record Nearest (x d n : ℕ) : Type 0 where
   pub from : 2 * n * d ≤ 2 * x + d
   pub below : 2 * x < 2 * n * d + d
@@ -17,6 +17,12 @@ NearestSubtick us n = Nearest (256 * (2 * us + 1)) (2 * 1_000_000) n
 -- "998,047 carries"
 abbrev pub firstCarried : ℕ
 firstCarried = 998_047
+
+-- A half is rounded up, as the words say; no subtick comes to one.
+pub record HalfUp : Type 0 where
+  pub up : Nearest 1 2 1
+  pub not-down : Nearest 1 2 0 → ⊥
+  pub no-half : (us n : ℕ) → 2 * (256 * (2 * us + 1)) ≡ (2 * n + 1) * (2 * 1_000_000) → ⊥
 
 pub record Subticks : Type 0 where
   -- for every us, the subtick is the nearest, and nothing else is

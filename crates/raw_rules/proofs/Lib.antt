@@ -1,2 +1,2 @@
--- The ways out of the definitions of raw counters.
+-- A law of the carry.
 pub mod Seconds

@@ -5,11 +5,11 @@ use lib.Dec.{eqb}
 use native.Mathlib.Omega.{arith}
 use borrow.Author.Tests.{eqb-true}
 use Rattle.base.proofs.Tests.{by-test}
-use Rattle.raw_rules.specs.Seconds.{carried}
+use Rattle.raw_rules.specs.Seconds.{withCarry}
 
-pub carried-sum : (seconds subtick : ℕ) → carried seconds subtick ≡ seconds * 256 + subtick
-unfolding carried
-carried-sum seconds subtick =
+pub carry-sum : (seconds subtick : ℕ) → withCarry seconds subtick ≡ seconds * 256 + subtick
+unfolding withCarry
+carry-sum seconds subtick =
     by-test (eqb subtick 256)
     (λ t. rw t (omega (arith, eqb-true subtick 256 t)))
     (λ f. rw f)

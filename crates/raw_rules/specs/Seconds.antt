@@ -14,9 +14,9 @@ unfoldable pub subtickOf : ℕ → ℕ
 subtickOf us = roundDown (512 * us + 1_000_256) 2_000_000
 
 -- "seconds×256 + subtick", and "a subtick of 256 carries into the second": document 002's "if ( sub > 255 ) { sub = 0 TICK = TICK + 1 }"
-unfoldable pub carried : ℕ → ℕ → ℕ
-carried seconds subtick = cond (eqb subtick 256) ((seconds + 1) * 256 + 0) (seconds * 256 + subtick)
+unfoldable pub withCarry : ℕ → ℕ → ℕ
+withCarry seconds subtick = cond (eqb subtick 256) ((seconds + 1) * 256 + 0) (seconds * 256 + subtick)
 
 -- the call
 unfoldable pub readSeconds : ℕ → ℕ → Answer ℕ
-readSeconds seconds us = unless 24 (leb us largestMicrosecond) (answer (carried seconds (subtickOf us)))
+readSeconds seconds us = unless 24 (leb us largestMicrosecond) (answer (withCarry seconds (subtickOf us)))

@@ -149,7 +149,7 @@ pub const WRONG_DISTANCE: Refusal = Refusal {
     place: Place::None,
 };
 
-// Of a raw counter: microseconds over 999,999; a reading before any accepted reset.
+// Of the second satellite: microseconds over 999,999; a reading of its counter before any accepted reset.
 pub const TOO_MANY_MICROSECONDS: Refusal = Refusal {
     number: 24,
     place: Place::None,

@@ -3,8 +3,8 @@
 
 use std::fmt::Write;
 
-use reference::{count_at, print_stamp, read_kernel, read_message, read_stamp, steps_back, time_of};
-use reference::{Layout, Partitions, Segments};
+use reference::{count_at, microseconds, print_stamp, read_kernel, read_message, read_stamp, steps_back, time_of};
+use reference::{Layout, Partitions, RawCounter, Segments};
 
 extern "C" {
     /// C's `clock`: microseconds of processor time. The proved program reads the same.
@@ -128,6 +128,27 @@ fn main() {
         let length = print_stamp(unknown(&LAYOUT), partitions, scaled(x, LAST + LAST), &mut buffer).unwrap();
         length as u64 * 256 + buffer[length - 1] as u64
     });
+    for (names, rows, times) in [
+        (["raw-reset-2", "raw-read-2"], 2, many(5_000_000, 1_000)),
+        (["raw-reset-9999", "raw-read-9999"], 9_999, many(20_000, 100)),
+    ] {
+        // Each two ticks shorter than the one before. Each question has a counter of its own that is about to roll over.
+        let (start, end): (Vec<u64>, Vec<u64>) = (0..rows).map(|i| (i, LAST - i)).unzip();
+        let rolling = |x: u64, count| RawCounter::at(u32::MAX - (x % 1_000) as u32, count);
+        line(names[0], times, timed, |x| {
+            let mut counter = rolling(x, 0);
+            let partitions = Partitions { start: &start, end: &end };
+            let count = counter.reset(unknown(&LAYOUT), partitions, 1 + x % rows, x as u32).unwrap();
+            count ^ u64::from(counter.raw)
+        });
+        line(names[1], times, timed, |x| {
+            let mut counter = rolling(x, scaled(x, LAST));
+            let partitions = Partitions { start: &start, end: &end };
+            let count = counter.read(unknown(&LAYOUT), partitions, (x % 777) as u32).unwrap();
+            count ^ u64::from(counter.raw)
+        });
+    }
+    line("microseconds", many(20_000_000, 1_000), timed, |x| microseconds(x as u32, (x % 1_000_000) as u32).unwrap());
     for (names, n, times) in [
         (["time-of-1", "count-at-1"], 1, 5_000_000),
         (["time-of-100", "count-at-100"], 100, 1_000_000),

@@ -7,10 +7,10 @@ use Rattle.encode.proofs.lengths_before.Statement.{statement}
 use Rattle.encode.proofs.lengths_before.Tie as tie
 
 abbrev Inv-loop : tie.InvT-loop
-Inv-loop starts ends number before₀ i₀ before i = (i ≤ number) × (before ≡ lengthsBefore (partitions starts ends) i)
+Inv-loop starts ends row before₀ i₀ before i = (i ≤ row) × (before ≡ lengthsBefore (partitions starts ends) i)
 
 abbrev μ-loop : tie.MeasureT-loop
-μ-loop starts ends number before₀ i₀ before i = number - i
+μ-loop starts ends row before₀ i₀ before i = row - i
 
 loop-holds : tie.Need-loop-holds Inv-loop μ-loop
 loop-holds c = (search needs, search (before-start, needs))
