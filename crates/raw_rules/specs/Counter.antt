@@ -14,7 +14,7 @@ use Rattle.raw_rules.specs.declared.RawAnswer.the-variants as Raws
 abbrev pub rawNumbers : ℕ
 rawNumbers = 4_294_967_296
 
--- "the difference of the raw numbers as a 32-bit counter sees it"
+-- "the difference of the raw numbers as a 32-bit counter sees it": raw less last, modulo 2^32; both are below 2^32
 unfoldable pub rawDifference : ℕ → ℕ → ℕ
 rawDifference raw last = (raw + (rawNumbers - last)) % rawNumbers
 
