@@ -31,12 +31,12 @@ pub record Needed (h : Hypothesis) (t : Track) : Type 0 where
 
 -- They can all be met, also by a counter that rolls over more than once.
 unfoldable pub rolling : Track
-rolling = track 1 (0 ∷ 0 ∷ 4_294_967_295 ∷ []) 4_294_967_297 (8_589_934_592 ∷ 8_589_934_592 ∷ 12_884_901_887 ∷ [])
+rolling = track 1 (0 ∷ 0 ∷ 4_294_967_295 ∷ 3 ∷ []) 4_294_967_297 (8_589_934_592 ∷ 8_589_934_592 ∷ 12_884_901_887 ∷ 12_884_901_891 ∷ [])
 
 pub record Met : Type 0 where
   pub says : (h : Hypothesis) → Says rolling h
-  pub adds-up : addedUp rolling ≡ 8_589_934_590
-  pub moved : movedBy rolling ≡ 8_589_934_590
+  pub adds-up : addedUp rolling ≡ 8_589_934_594
+  pub moved : movedBy rolling ≡ 8_589_934_594
 
 -- under table A
 abbrev pub around : ℕ → ℕ → List Call → Around
