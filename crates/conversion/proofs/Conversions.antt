@@ -1,24 +1,26 @@
 -- The ways out of the two conversions within accepted segments.
-use Prim.Native.Nat.{ℕ, _+_, _-_, _^_, _≤_, _<_}
-use mathlib.Core.Path.{_≡_, sym, _∙_}
+use Prim.Native.Nat.{ℕ, _+_, _-_, _^_, _≤_, _<_, min}
+use mathlib.Core.Path.{_≡_, sym, ap, _∙_}
 use mathlib.Core.Bool.{Bool, true, false, not, _&&_}
 use mathlib.Core.List.{List}
 use mathlib.Core.Option.{some}
 use lib.IntN.{ℤ}
+use lib.Dec.{leb, ltb}
 use lib.ListN.{length, getD}
 use lib.Signed.{leZ}
 use mir.Syntax.{w64}
 use mir.Val.{Fits, SFits, toZ, ofZ}
 use mir.Facts.{toZ-ofZ}
-use borrow.Author.Tests.{le-leb, lt-leb, lt-ltb, le-ltb, not-true, not-false}
+use borrow.Author.Tests.{le-leb, lt-leb, leb-true, leb-false, lt-ltb, le-ltb, not-true, not-false}
 use native.Mathlib.Omega.{arith}
-use Rattle.base.proofs.Tests.{and-second}
+use Rattle.base.proofs.Tests.{by-test, and-second}
 use Rattle.rules.specs.Limits.{earliestTime, latestTime}
 use Rattle.rules.specs.declared.Segment.{Segment}
 use Rattle.rules.specs.Answer.{Answer, answer, refuse, unless, timeOfCount, countAtTime}
 use Rattle.rules.specs.Segments.{Segments, segments, rowOf, lineAt}
 use Rattle.rules.specs.Facts.{SegmentsFacts}
 use Rattle.rules.specs.Time.{segmentOf, segmentAt, timeOn, timeIn, ticksSince, lineCount, stoppedAt, notBeyond, countOn, countIn}
+use Rattle.rules.specs.declared.TimeOfCount.{TimeOfCount}
 use Rattle.rules.specs.declared.CountAtTime.{CountAtTime}
 use Rattle.tables.specs.Accept.{BasisFacts}
 use Rattle.segments.specs.Rows.{RowIn}
@@ -26,7 +28,7 @@ use Rattle.segment_line.specs.Line.{ToTime, ToTicks}
 use Rattle.segment_search.specs.declared.Found.{Found}
 use Rattle.segment_search.specs.declared.Found.the-variants as Of
 use Rattle.segment_search.specs.Found.{found}
-use Rattle.conversion.specs.Stop.{Stoppable}
+use Rattle.conversion.specs.LastCount.{HasCount, lastCount}
 use Rattle.conversion.proofs.Rows.{count-below, next-positive, in-lists, count-row, line-to-time, time-row, line-to-ticks, ticks-small}
 
 module _ (total c : ℕ) where
@@ -38,22 +40,27 @@ module _ (total c : ℕ) where
   unfolding notBeyond unless
   not-beyond h = rw (le-leb c total h)
 
-pub next-counts : (counts : List ℕ) (i : ℕ) → Stoppable counts i → i + 1 < length counts → 1 ≤ getD counts (i + 1) 0
-next-counts counts i w h = w .next h
+-- the code has n counts and the next one, wherever they lie
+module _ (counts : List ℕ) (i : ℕ) (w : HasCount counts i) (n : ℕ) (en : n ≡ length counts) where
+  pub next-positive-at : i + 1 < n → (x : ℕ) → x ≡ getD counts (i + 1) 0 → 1 ≤ x
+  next-positive-at h x e = rw e (w .next (rw en at h))
 
-module _ (counts : List ℕ) (i c : ℕ) where
-  module _ (more : i + 1 < length counts) where
-    pub stops : getD counts (i + 1) 0 ≤ c → getD counts (i + 1) 0 - 1 ≡ stoppedAt counts i c
-    unfolding stoppedAt
-    stops h = rw (lt-ltb _ _ more, le-leb _ _ h)
+  pub next-ends : i + 1 < n → (x : ℕ) → x ≡ getD counts (i + 1) 0 → x - 1 ≡ lastCount counts i
+  unfolding lastCount
+  next-ends h x e = rw (lt-ltb _ _ (rw en at h), e)
 
-    pub goes-on : c < getD counts (i + 1) 0 → c ≡ stoppedAt counts i c
-    unfolding stoppedAt
-    goes-on h = rw (lt-ltb _ _ more, lt-leb _ _ h)
+  pub last-ends : n ≤ i + 1 → 2 ^ 64 - 1 ≡ lastCount counts i
+  unfolding lastCount
+  last-ends h = rw (le-ltb _ _ (rw en at h))
 
-  pub last-goes-on : length counts ≤ i + 1 → c ≡ stoppedAt counts i c
-  unfolding stoppedAt
-  last-goes-on h = rw (le-ltb _ _ h)
+stopped-is : (counts : List ℕ) (i c : ℕ) → HasCount counts i → c < 2 ^ 64 → stoppedAt counts i c ≡ min c (lastCount counts i)
+unfolding stoppedAt lastCount
+stopped-is counts i c w small =
+    by-test (ltb (i + 1) (length counts))
+    (λ t. rw t (by-test (leb (getD counts (i + 1) 0) c)
+    (λ u. rw u (omega (arith, leb-true (getD counts (i + 1) 0) c u)))
+    (λ v. rw v (omega (arith, leb-false (getD counts (i + 1) 0) c v)))))
+    (λ f. rw f (omega arith))
 
 module _ (unit total : ℕ) (counts : List ℕ) (times : List ℤ) (rates : List ℕ) where
   abbrev g : Segments
@@ -79,9 +86,9 @@ module _ (unit total : ℕ) (counts : List ℕ) (times : List ℤ) (rates : List
         pub row-to-time : (row : Segment) → row ≡ rowOf g i → e ≤ total → ToTime unit row e
         row-to-time row there h = rw there (line-to-time unit total g fg (fb .divides) e i at-row h)
 
-      pub time-is : (row : Segment) (z : ℤ) → row ≡ rowOf g i → e ≤ total → SFits w64 z → z ≡ lineAt unit row e → answer (timeOfCount (toZ w64 (ofZ w64 z))) ≡ timeIn unit total g e
+      pub time-is : (row : Segment) (z : TimeOfCount) → row ≡ rowOf g i → e ≤ total → z ≡ timeOfCount (lineAt unit row e) → answer z ≡ timeIn unit total g e
       unfolding timeIn unless timeOn
-      time-is row z there h fz v = rw (le-leb e total h, at-row, toZ-ofZ fz, v, there)
+      time-is row z there h v = rw (le-leb e total h, at-row, v, there)
 
   pub out-of-range : (t : ℤ) (b : Bool) → SFits w64 t → b ≡ (leZ earliestTime (toZ w64 (ofZ w64 t)) && leZ (toZ w64 (ofZ w64 t)) latestTime) → not b ≡ true → refuse 14 ≡ countIn unit total g t
   unfolding countIn unless
@@ -103,19 +110,35 @@ module _ (unit total : ℕ) (counts : List ℕ) (times : List ℤ) (rates : List
         pub time-in-lists : RowIn g i
         time-in-lists = in-lists unit total g fg i (time-row unit total g fg (fb .divides) t i at-time-row)
 
-        pub stoppable : Stoppable counts i
-        stoppable = record { there = time-row unit total g fg (fb .divides) t i at-time-row; next = next-positive unit total g fg i }
+        pub has-count : HasCount counts i
+        has-count = record { there = time-row unit total g fg (fb .divides) t i at-time-row; next = next-positive unit total g fg i }
 
         pub row-to-ticks : (row : Segment) → row ≡ rowOf g i → ToTicks unit row (toZ w64 (ofZ w64 t))
         row-to-ticks row there = rw (there, toZ-ofZ ft) (line-to-ticks unit total g fg (fb .divides) t i at-time-row)
 
-        pub sum-fits : (row : Segment) (k : ℕ) → row ≡ rowOf g i → k ≡ ticksSince unit row (toZ w64 (ofZ w64 t)) → Fits w64 (row .count + k)
-        sum-fits row k there v =
-            record { fits = rw there (sum (count-below unit total g fg i (time-row unit total g fg (fb .divides) t i at-time-row)) (ticks-small unit total g fg (fb .divides) t i at-time-row (ft .sfits) (and-second (leZ earliestTime t) (leZ t latestTime) both)) (rw (there, toZ-ofZ ft) at v)) }
+        sum-small : lineCount unit (rowOf g i) t < 2 ^ 64
+        unfolding lineCount
+        sum-small =
+            sum (count-below unit total g fg i (time-row unit total g fg (fb .divides) t i at-time-row)) (ticks-small unit total g fg (fb .divides) t i at-time-row (ft .sfits) (and-second (leZ earliestTime t) (leZ t latestTime) both))
           where
-            sum : {c x : ℕ} → c ≤ total → x ≤ 8_000_000_000_000_000_000 → k ≡ x → c + k < 2 ^ 64
-            sum a b d = omega (arith, fb .small)
+            sum : {c x : ℕ} → c ≤ total → x ≤ 8_000_000_000_000_000_000 → c + x < 2 ^ 64
+            sum a b = omega (arith, fb .small)
 
-      pub count-is : (row : Segment) (k c : ℕ) (a : Answer CountAtTime) → row ≡ rowOf g i → k ≡ ticksSince unit row (toZ w64 (ofZ w64 t)) → c ≡ stoppedAt counts i (row .count + k) → a ≡ notBeyond total c → a ≡ countIn unit total g t
-      unfolding countIn unless countOn lineCount
-      count-is row k c a there v x y = y ∙ rw (x, v, there, toZ-ofZ ft, both, at-time-row)
+        pub row-sum-fits : (row : Segment) → row ≡ rowOf g i → lineCount unit row (toZ w64 (ofZ w64 t)) < 2 ^ 64
+        row-sum-fits row there = rw (there, toZ-ofZ ft) sum-small
+
+        pub count-is : (row : Segment) (last : ℕ) (a : Answer CountAtTime) → row ≡ rowOf g i → last ≡ lastCount counts i → a ≡ notBeyond total (min (lineCount unit row (toZ w64 (ofZ w64 t))) last) → a ≡ countIn unit total g t
+        unfolding countIn unless countOn
+        count-is row last a there e y = y ∙ rw (e, there, toZ-ofZ ft, both, at-time-row, stopped-is counts i (lineCount unit (rowOf g i) t) has-count sum-small)
+
+-- on one row
+pub sum-fits : (unit : ℕ) (row : Segment) (t : ℤ) (k : ℕ) → SFits w64 t → lineCount unit row t < 2 ^ 64 → k ≡ ticksSince unit row (toZ w64 (ofZ w64 t)) → Fits w64 (row .count + k)
+unfolding lineCount
+sum-fits unit row t k ft small e = record { fits = rw (e, toZ-ofZ ft) small }
+
+pub row-count : (unit total : ℕ) (row : Segment) (last : ℕ) (t : ℤ) (k c : ℕ) (a : Answer CountAtTime) → SFits w64 t → k ≡ ticksSince unit row (toZ w64 (ofZ w64 t)) → c ≡ min (row .count + k) last → a ≡ notBeyond total c → a ≡ notBeyond total (min (lineCount unit row t) last)
+unfolding lineCount
+row-count unit total row last t k c a ft e f y = y ∙ rw (f, e, toZ-ofZ ft)
+
+pub row-time : (unit : ℕ) (row : Segment) (e : ℕ) (z : ℤ) → SFits w64 z → z ≡ lineAt unit row e → timeOfCount (toZ w64 (ofZ w64 z)) ≡ timeOfCount (lineAt unit row e)
+row-time unit row e z f h = ap timeOfCount (toZ-ofZ f ∙ h)

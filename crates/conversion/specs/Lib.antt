@@ -1,1 +1,1 @@
-pub mod Stop
+pub mod LastCount

@@ -1,18 +1,21 @@
 // The two conversions within accepted segments.
 ghost use mathlib.Core.Path.{_≡_};
 ghost use mathlib.Core.Bool.{_&&_};
+ghost use Prim.Native.Nat.{_^_, _<_, min};
 ghost use lib.Signed.{leZ};
 ghost use Rattle.rules.specs.Limits.{earliestTime, latestTime};
-ghost use Rattle.rules.specs.Answer.{timeAnswer, countAnswer};
-ghost use Rattle.rules.specs.Segments.{segments};
+ghost use Rattle.rules.specs.Answer.{timeOfCount, timeAnswer, countAnswer};
+ghost use Rattle.rules.specs.Segments.{segments, lineAt};
 ghost use Rattle.rules.specs.Facts.{SegmentsFacts};
-ghost use Rattle.rules.specs.Time.{stoppedAt, notBeyond, timeIn, countIn};
+ghost use Rattle.rules.specs.Time.{lineCount, notBeyond, timeIn, countIn};
 ghost use Rattle.tables.specs.Accept.{BasisFacts};
-ghost use Rattle.conversion.specs.Stop.{Stoppable};
+ghost use Rattle.segment_line.specs.Line.{ToTime, ToTicks};
+ghost use Rattle.conversion.specs.LastCount.{HasCount, lastCount};
 use layouts::limits::EARLIEST_TIME;
 use layouts::limits::LATEST_TIME;
 use rules::CountAnswer;
 use rules::CountAtTime;
+use rules::Segment;
 use rules::TimeAnswer;
 use rules::TimeOfCount;
 use segment_line::ticks_on;
@@ -38,9 +41,7 @@ pub fn time_within(
         return TimeAnswer::Refused(refusals::BEYOND_TOTAL);
     }
     match row_of_count(counts, e) {
-        Found::Row(i) => TimeAnswer::Time(TimeOfCount {
-            time: time_on(unit, row_at(counts, times, rates, i), e),
-        }),
+        Found::Row(i) => TimeAnswer::Time(time_of_row(unit, row_at(counts, times, rates, i), e)),
         Found::Nothing => TimeAnswer::Refused(refusals::BEFORE_FIRST_SEGMENT),
     }
 }
@@ -61,16 +62,38 @@ pub fn count_within(
         return CountAnswer::Refused(refusals::TIME_OUT_OF_RANGE);
     }
     match row_of_time(times, t) {
-        Found::Row(i) => {
-            let row = row_at(counts, times, rates, i);
-            let reached = row.count + ticks_on(unit, row, t);
-            not_beyond(total, stopped(counts, i, reached))
-        }
+        Found::Row(i) => count_of_row(
+            unit,
+            total,
+            row_at(counts, times, rates, i),
+            last_count(counts, i),
+            t,
+        ),
         Found::Nothing => CountAnswer::Refused(refusals::BEFORE_FIRST_SEGMENT),
     }
 }
 
-fn in_range(t: i64) -> bool
+// What the count `e` gives on its row.
+pub fn time_of_row(unit: u64, row: Segment, e: u64) -> TimeOfCount
+    requires { ⌜ ToTime unit row e ⌝ }
+    ensures { λ r. ⌜ r ≡ timeOfCount (lineAt unit row e) ⌝ }
+{
+    TimeOfCount {
+        time: time_on(unit, row, e),
+    }
+}
+
+// What the time `t` gives on its row, whose last count is `last`.
+pub fn count_of_row(unit: u64, total: u64, row: Segment, last: u64, t: i64) -> CountAnswer
+    requires { ⌜ ToTicks unit row t ⌝ }
+    requires { ⌜ lineCount unit row t < 2 ^ 64 ⌝ }
+    ensures { λ r. ⌜ countAnswer r ≡ notBeyond total (min (lineCount unit row t) last) ⌝ }
+{
+    let reached = row.count + ticks_on(unit, row, t);
+    not_beyond(total, smaller(reached, last))
+}
+
+pub fn in_range(t: i64) -> bool
     ensures { λ r. ⌜ r ≡ (leZ earliestTime t && leZ t latestTime) ⌝ }
 {
     if t < EARLIEST_TIME {
@@ -79,18 +102,21 @@ fn in_range(t: i64) -> bool
     t <= LATEST_TIME
 }
 
-// A count on row `i`, stopped below the next row's count.
-fn stopped(counts: &[u64], i: usize, count: u64) -> u64
-    requires { ⌜ Stoppable (now counts) i ⌝ }
-    ensures { λ r. ⌜ r ≡ stoppedAt (now (counts .entry)) i count ⌝ }
+// The last count of row `i`: the one before the next row's, or the greatest number there is.
+fn last_count(counts: &[u64], i: usize) -> u64
+    requires { ⌜ HasCount (now counts) i ⌝ }
+    ensures { λ r. ⌜ r ≡ lastCount (now (counts .entry)) i ⌝ }
 {
     if i + 1 < counts.len() {
-        let next = counts[i + 1];
-        if next <= count {
-            return next - 1;
-        }
+        return counts[i + 1] - 1;
     }
-    count
+    u64::MAX
+}
+
+fn smaller(a: u64, b: u64) -> u64
+    ensures { λ r. ⌜ r ≡ min a b ⌝ }
+{
+    if a < b { a } else { b }
 }
 
 fn not_beyond(total: u64, count: u64) -> CountAnswer

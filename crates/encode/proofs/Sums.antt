@@ -22,6 +22,14 @@ use Rattle.encode.specs.Listed.{Listed}
 pub listed : (P : ℕ) (p : Partitions) → PartitionsFacts P p → Listed p
 listed P p f = record { one-length = f .one-length; few = f .few; ordered = λ i h. omega (arith, f .each i h .ordered); total = f .total }
 
+-- a count from start to end
+module _ (start end count : ℕ) (t : Bool) (w : t ≡ (leb start count && leb count end)) where
+  pub from-start : t ≡ true → start ≤ count
+  from-start y = leb-true _ _ (and-first _ _ (sym w ∙ y))
+
+  to-end : t ≡ true → count ≤ end
+  to-end y = leb-true count end (and-second (leb start count) _ (sym w ∙ y))
+
 module _ (ss es : List ℕ) where
   abbrev p : Partitions
   p = partitions ss es
@@ -30,30 +38,30 @@ module _ (ss es : List ℕ) where
   unfolding lengthsBefore
   before-start = sym (sum-start (lengthOf p))
 
-  pub before-next : (i b : ℕ) → b ≡ lengthsBefore p i → b + (getD es i 0 - getD ss i 0) ≡ lengthsBefore p (i + 1)
-  unfolding lengthsBefore
-  before-next i b e = rw (sum-next (lengthOf p) i, e)
+  -- partition i, wherever the code has it from
+  module _ (i start end : ℕ) (s : start ≡ getD ss i 0) (e : end ≡ getD es i 0) where
+    pub before-next : (b : ℕ) → b ≡ lengthsBefore p i → b + (end - start) ≡ lengthsBefore p (i + 1)
+    unfolding lengthsBefore
+    before-next b h = rw (sum-next (lengthOf p) i, h, s, e)
 
-  module _ (f : Listed p) where
-    below-total : (i : ℕ) → i < length ss → lengthsBefore p i + (getD es i 0 - getD ss i 0) ≤ largestTotal
-    unfolding lengthsBefore totalOf
-    below-total i h = omega (arith, sum-next (lengthOf p) i, sum-up (lengthOf p) (i + 1) (length ss) (omega arith), f .total)
+    module _ (f : Listed p) (n : ℕ) (en : n ≡ length ss) (inside : i < n) where
+      pub ends-at-start : start ≤ end
+      ends-at-start = rw (s, e) (f .ordered i (rw en at inside))
 
-    pub ends-at-start : (i : ℕ) → i < length ss → getD ss i 0 ≤ getD es i 0
-    ends-at-start i h = f .ordered i h
+      below-total : lengthsBefore p i + (end - start) ≤ largestTotal
+      unfolding lengthsBefore totalOf
+      below-total = omega (arith, sum-next (lengthOf p) i, sum-up (lengthOf p) (i + 1) (length ss) (omega arith), f .total)
 
-    pub before-fits : (i b : ℕ) → i < length ss → b ≡ lengthsBefore p i → Fits w64 (b + (getD es i 0 - getD ss i 0))
-    before-fits i b h e = record { fits = omega (arith, below-total i h) }
+      pub before-fits : (b : ℕ) → b ≡ lengthsBefore p i → Fits w64 (b + (end - start))
+      before-fits b h = record { fits = omega (arith, below-total) }
 
-  module _ (count i : ℕ) (t : Bool) (w : t ≡ (leb (getD ss i 0) count && leb count (getD es i 0))) where
-    pub from-start : t ≡ true → getD ss i 0 ≤ count
-    from-start y = leb-true _ _ (and-first _ _ (sym w ∙ y))
+    module _ (count : ℕ) (t : Bool) (w : t ≡ (leb start count && leb count end)) where
+      holds-test : holds p count i ≡ t
+      unfolding holds
+      holds-test = rw (w, s, e)
 
-    to-end : t ≡ true → count ≤ getD es i 0
-    to-end y = leb-true count (getD es i 0) (and-second (leb (getD ss i 0) count) _ (sym w ∙ y))
-
-    pub encoded-fits : (b : ℕ) → Listed p → i < length ss → b ≡ lengthsBefore p i → t ≡ true → Fits w64 (b + (count - getD ss i 0))
-    encoded-fits b f h e y = record { fits = omega (arith, below-total f i h, to-end y) }
+      pub encoded-fits : (b : ℕ) → Listed p → (n : ℕ) → n ≡ length ss → i < n → b ≡ lengthsBefore p i → t ≡ true → Fits w64 (b + (count - start))
+      encoded-fits b f n en h g y = record { fits = omega (arith, below-total f n en h, to-end start end count t w y) }
 
   -- b is the sum of the lengths before i, and no partition before i holds the count
   pub record Passed (count i b : ℕ) : Type 0 where
@@ -64,19 +72,18 @@ module _ (ss es : List ℕ) where
     pub passed-start : Passed count 0 0
     passed-start = record { sum = before-start; none-holds = λ j h. absurd (omega arith) }
 
-    module _ (i b : ℕ) (w : Passed count i b) (t : Bool) (e : t ≡ (leb (getD ss i 0) count && leb count (getD es i 0))) where
-      pub passed-next : t ≡ false → Passed count (i + 1) (b + (getD es i 0 - getD ss i 0))
-      unfolding holds
-      passed-next n = record { sum = before-next i b (w .sum); none-holds = below-more _ _ (w .none-holds) (sym e ∙ n) }
+    module _ (i b : ℕ) (w : Passed count i b) (start end : ℕ) (s : start ≡ getD ss i 0) (e : end ≡ getD es i 0) (t : Bool) (h : t ≡ (leb start count && leb count end)) where
+      pub passed-next : t ≡ false → Passed count (i + 1) (b + (end - start))
+      passed-next out = record { sum = before-next i start end s e b (w .sum); none-holds = below-more _ _ (w .none-holds) (holds-test i start end s e count t h ∙ out) }
 
-      pub passed-here : i < length ss → t ≡ true → answer (b + (count - getD ss i 0)) ≡ encodeFirst p count
-      unfolding encodeFirst encodeFound encodedIn holds
-      passed-here h y =
-          rw (first-is (holds p count) (length ss) i (record { below = h; holds = sym e ∙ y; before = w .none-holds }), ← (w .sum))
+      pub passed-here : (n : ℕ) → n ≡ length ss → i < n → t ≡ true → answer (b + (count - start)) ≡ encodeFirst p count
+      unfolding encodeFirst encodeFound encodedIn
+      passed-here n en inside y =
+          rw (first-is (holds p count) (length ss) i (record { below = rw en at inside; holds = holds-test i start end s e count t h ∙ y; before = w .none-holds }), ← (w .sum), s)
 
-    pub passed-all : (i b : ℕ) → Passed count i b → length ss ≤ i → refuse 11 ≡ encodeFirst p count
+    pub passed-all : (i b : ℕ) → Passed count i b → (n : ℕ) → n ≡ length ss → n ≤ i → refuse 11 ≡ encodeFirst p count
     unfolding encodeFirst encodeFound
-    passed-all i b w h = rw (first-none (holds p count) (length ss) (λ j l. w .none-holds j (omega arith)))
+    passed-all i b w n en h = rw (first-none (holds p count) (length ss) (λ j l. w .none-holds j (omega arith)))
 
   pub sum-of : (count i b : ℕ) → Passed count i b → b ≡ lengthsBefore p i
   sum-of count i b w = w .sum
@@ -90,15 +97,15 @@ module _ (ss es : List ℕ) where
     unfolding encodeNamed unless
     zero-named h = rw (lt-leb 1 number h)
 
-    pub past-named : length ss < number → refuse 10 ≡ encodeNamed p number count
+    pub past-named : (n : ℕ) → n ≡ length ss → n < number → refuse 10 ≡ encodeNamed p number count
     unfolding encodeNamed unless
-    past-named h = rw (and-out-second (leb 1 number) (lt-leb number (length ss) h))
+    past-named n en h = rw (and-out-second (leb 1 number) (lt-leb number (length ss) (rw en at h)))
 
-    module _ (low : 1 ≤ number) (high : number ≤ length ss) (t : Bool) (e : t ≡ (leb (getD ss (number - 1) 0) count && leb count (getD es (number - 1) 0))) where
+    module _ (low : 1 ≤ number) (n : ℕ) (en : n ≡ length ss) (high : number ≤ n) (start end : ℕ) (s : start ≡ getD ss (number - 1) 0) (e : end ≡ getD es (number - 1) 0) (t : Bool) (h : t ≡ (leb start count && leb count end)) where
       pub named-outside : t ≡ false → refuse 11 ≡ encodeNamed p number count
-      unfolding encodeNamed unless holds
-      named-outside n = rw (le-leb 1 number low, le-leb number (length ss) high, sym e ∙ n)
+      unfolding encodeNamed unless
+      named-outside out = rw (le-leb 1 number low, le-leb number (length ss) (rw en at high), holds-test (number - 1) start end s e count t h ∙ out)
 
-      pub named-inside : (b : ℕ) → t ≡ true → b ≡ lengthsBefore p (number - 1) → answer (b + (count - getD ss (number - 1) 0)) ≡ encodeNamed p number count
-      unfolding encodeNamed unless holds encodedIn
-      named-inside b y f = rw (le-leb 1 number low, le-leb number (length ss) high, sym e ∙ y, f)
+      pub named-inside : (b : ℕ) → t ≡ true → b ≡ lengthsBefore p (number - 1) → answer (b + (count - start)) ≡ encodeNamed p number count
+      unfolding encodeNamed unless encodedIn
+      named-inside b y f = rw (le-leb 1 number low, le-leb number (length ss) (rw en at high), holds-test (number - 1) start end s e count t h ∙ y, f, s)

@@ -56,7 +56,7 @@ pub fn encode_named(starts: &[u64], ends: &[u64], number: u64, count: u64) -> En
 }
 
 // Both included.
-fn is_within(start: u64, end: u64, count: u64) -> bool
+pub fn is_within(start: u64, end: u64, count: u64) -> bool
     ensures { λ r. ⌜ r ≡ (leb start count && leb count end) ⌝ }
 {
     if count < start {

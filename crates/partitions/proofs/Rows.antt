@@ -61,21 +61,22 @@ module _ (P : ℕ) (ss es : List ℕ) where
   unfolding lengthsBefore
   rows-start = record { good = λ j h. absurd (omega arith); total = sym (sum-start (lengthOf (partitions ss es))); small = omega arith }
 
-  module _ (i t : ℕ) (w : RowsTo P ss es i t) {b : Bool} (test : b ≡ rowOk P t (getD ss i 0) (getD es i 0)) where
-    sum : lengthsBefore (partitions ss es) (i + 1) ≡ t + (getD es i 0 - getD ss i 0)
+  -- row i, wherever the code has it from
+  module _ (i t : ℕ) (w : RowsTo P ss es i t) (start end : ℕ) (s : start ≡ getD ss i 0) (e : end ≡ getD es i 0) {b : Bool} (test : b ≡ rowOk P t start end) where
+    sum : lengthsBefore (partitions ss es) (i + 1) ≡ t + (end - start)
     unfolding lengthsBefore
-    sum = rw (sum-next (lengthOf (partitions ss es)) i, ← (w .total))
+    sum = rw (sum-next (lengthOf (partitions ss es)) i, ← (w .total), s, e)
 
     row-test : partitionOk P (partitions ss es) i ≡ b
     unfolding partitionOk rowOk
-    row-test = rw (test, sum)
+    row-test = rw (test, sum, s, e)
 
-    pub rows-turn : not b ≡ false → RowsTo P ss es (i + 1) (t + (getD es i 0 - getD ss i 0))
+    pub rows-turn : not b ≡ false → RowsTo P ss es (i + 1) (t + (end - start))
     rows-turn h =
         record {
           good = below-more _ _ (w .good) (row-test ∙ not-false b h);
           total = sym sum;
-          small = small-sum P t (getD ss i 0) (getD es i 0) test h;
+          small = small-sum P t start end test h;
         }
 
     pub row-fails : not b ≡ true → partitionOk P (partitions ss es) i ≡ false

@@ -9,6 +9,7 @@ use Rattle.rules.specs.declared.Refusal.{Refusal}
 use Rattle.rules.specs.declared.PrintAnswer.{PrintAnswer}
 use Rattle.rules.specs.Answer.{Answer, refused, refuse, unless, andThen, printAnswer}
 use Rattle.rules.specs.Facts.{LayoutFacts, PartitionsFacts}
+use Rattle.rules.specs.Limits.{mostPartitions}
 use Rattle.rules.specs.Layout.{moduliOf, offsetsOf, productOf}
 use Rattle.rules.specs.Partitions.{Partitions, totalOf}
 use Rattle.rules.specs.Print.{delimiterByte, padded, fieldsPrint, countPrint, stampPrint, fitting, partitionOf, decodedIn, printCount, printStamp, lengthPrinted, bufferAfter}
@@ -22,6 +23,9 @@ use Rattle.tables.specs.declared.Basis.{Basis}
 use Rattle.tables.specs.Accept.{acceptance, stampsBasis}
 use Rattle.tables.proofs.Accepted.{layout-refused, layout-good, layout-product, layout-accepted, stamps-facts, stamps-refused, stamps-accepted}
 use Rattle.buffer_print.specs.Printed.{Printed}
+use Rattle.decode.specs.Decodable.{Decodable}
+use Rattle.decode.proofs.Accepted.{decodable, partition-few}
+use Rattle.decode.proofs.Accepted.{count-below as decoded-below}
 
 -- the two clauses of a contract
 pub both : (r : PrintAnswer) {a : Answer (List ℕ)} {entry exit : List ℕ} → Printed a r entry exit → (printAnswer r ≡ lengthPrinted a) × (exit ≡ bufferAfter a entry)
@@ -80,21 +84,30 @@ module _ (l : Layout) (p : Partitions) (a : MeasureAnswer) (w : measureAnswer a 
   pub stamp-layout : LayoutFacts l
   stamp-layout = stamps-facts l p a w q v b s .layout
 
-  pub stamp-partitions : PartitionsFacts (productOf l) p
+  stamp-partitions : PartitionsFacts (productOf l) p
   stamp-partitions = stamps-facts l p a w q v b s .partitions
 
   stamp-total : b .total ≡ totalOf p
   stamp-total = stamps-facts l p a w q v b s .total
 
-  pub stamp-held : (e : ℕ) → e ≤ b .total → e ≤ totalOf p
-  stamp-held e h = rw stamp-total at h
+  module _ (e : ℕ) (h : e ≤ b .total) where
+    stamp-held : e ≤ totalOf p
+    stamp-held = rw stamp-total at h
 
-module _ (l : Layout) (p : Partitions) (e room : ℕ) (r : PrintAnswer) (entry exit : List ℕ) where
-  pub stamp-print : (d partition count : ℕ) → d ≡ delimiterByte (l .delimiter) → partition ≡ partitionOf p e → count ≡ decodedIn p e (partitionOf p e)
-      → Printed (fitting room (padded 1 (partition + 1) ++ (47 ∷ fieldsPrint d count (moduliOf l) (offsetsOf l)))) r entry exit
-      → Printed (fitting room (stampPrint l p e)) r entry exit
-  unfolding stampPrint countPrint
-  stamp-print d partition count ed ep ec w = rw (ed, ec, ep) at w
+    pub stamp-decodable : Decodable p e
+    stamp-decodable = decodable (productOf l) p e (stamp-layout .product) stamp-partitions stamp-held
+
+    pub stamp-few : (partition : ℕ) → partition ≡ partitionOf p e → partition < mostPartitions
+    stamp-few partition = partition-few (productOf l) p e (stamp-layout .product) stamp-partitions stamp-held partition
+
+    pub stamp-below : (count : ℕ) → count ≡ decodedIn p e (partitionOf p e) → count < productOf l
+    stamp-below count = decoded-below (productOf l) p e (stamp-layout .product) stamp-partitions stamp-held count
+
+module _ (l : Layout) (partition count room : ℕ) (r : PrintAnswer) (entry exit : List ℕ) where
+  pub stamp-print : (d : ℕ) → d ≡ delimiterByte (l .delimiter) → Printed (fitting room (padded 1 (partition + 1) ++ (47 ∷ fieldsPrint d count (moduliOf l) (offsetsOf l)))) r entry exit
+      → Printed (fitting room (padded 1 (partition + 1) ++ (47 ∷ countPrint l count))) r entry exit
+  unfolding countPrint
+  stamp-print d e w = rw e at w
 
 module _ (l : Layout) (p : Partitions) (a : MeasureAnswer) (w : measureAnswer a ≡ measureOf l) (q : Acceptance) (v : acceptance q ≡ andThen (measureAnswer a) (stampsBasis p)) (e room : ℕ) where
   pub stamp-tables : (k : Refusal) → q ≡ Refused k → refused k ≡ printStamp l p e room
@@ -116,6 +129,7 @@ module _ (l : Layout) (p : Partitions) (a : MeasureAnswer) (w : measureAnswer a 
     pub stamp-above-leaves : (buffer : List ℕ) → b .total < e → buffer ≡ bufferAfter (printStamp l p e room) buffer
     stamp-above-leaves buffer k = refused-bytes _ _ (stamp-above k) buffer
 
-    pub stamp-printed : (r : PrintAnswer) (entry exit : List ℕ) → e ≤ b .total → Printed (fitting room (stampPrint l p e)) r entry exit → Printed (printStamp l p e room) r entry exit
-    unfolding unless
-    stamp-printed r entry exit k x = rw (stamp-next, le-leb e (totalOf p) (stamp-held l p a w q v b s e k)) x
+    pub stamp-printed : (partition count : ℕ) → partition ≡ partitionOf p e → count ≡ decodedIn p e (partitionOf p e) → (r : PrintAnswer) (entry exit : List ℕ) → e ≤ b .total
+        → Printed (fitting room (padded 1 (partition + 1) ++ (47 ∷ countPrint l count))) r entry exit → Printed (printStamp l p e room) r entry exit
+    unfolding unless stampPrint
+    stamp-printed partition count ep ec r entry exit k x = rw (stamp-next, le-leb e (totalOf p) (stamp-held l p a w q v b s e k)) (rw (ec, ep) at x)

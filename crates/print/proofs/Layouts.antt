@@ -6,15 +6,12 @@ use lib.ListN.{length, take}
 use lib.Seq.{length-take-le}
 use native.Mathlib.Omega.{arith}
 use Rattle.base.specs.Scans.{product}
-use Rattle.rules.specs.Facts.{LayoutFacts, PartitionsFacts}
+use Rattle.rules.specs.Facts.{LayoutFacts}
 use Rattle.rules.specs.Limits.{mostFields}
 use Rattle.rules.specs.declared.Layout.{Layout}
 use Rattle.rules.specs.Layout.{moduliOf, offsetsOf, productOf}
-use Rattle.rules.specs.Partitions.{Partitions, totalOf}
-use Rattle.rules.specs.Print.{partitionOf, decodedIn}
 use Rattle.layouts.proofs.Slots.{slots-within}
 use Rattle.roundtrip.specs.Fields.{AllFields}
-use Rattle.decode.proofs.Accepted.{count-below}
 
 -- the arrays of a layout in code have ten slots
 abbrev Slots : List ℕ → Type 0
@@ -36,7 +33,3 @@ all-fields l m o f =
 pub product-below : (l : Layout) (c : ℕ) → c < productOf l → c < product (moduliOf l)
 unfolding productOf
 product-below l c h = h
-
-pub decoded-below : (l : Layout) (p : Partitions) (e count : ℕ) → LayoutFacts l → PartitionsFacts (productOf l) p → e ≤ totalOf p
-    → count ≡ decodedIn p e (partitionOf p e) → count < product (moduliOf l)
-decoded-below l p e count f g held q = product-below l count (count-below (productOf l) p e (f .product) g held count q)

@@ -1,17 +1,19 @@
 // Printing a count, or an encoded count as a stamp, to the front of a lent buffer. The answer is the print's length.
 // A refusal leaves every byte of the buffer; an answer writes the print and no byte after it.
-ghost use Prim.Native.Nat.{_≤_, _<_};
+ghost use Prim.Native.Nat.{_+_, _≤_, _<_};
+ghost use mathlib.Core.List.{_∷_, _++_};
 ghost use mathlib.Core.Path.{_≡_};
 ghost use lib.ListN.{length};
 ghost use Rattle.rules.specs.Answer.{printAnswer};
-ghost use Rattle.rules.specs.Facts.{LayoutFacts, PartitionsFacts};
+ghost use Rattle.rules.specs.Facts.{LayoutFacts};
 ghost use Rattle.rules.specs.Layout.{productOf};
-ghost use Rattle.rules.specs.Limits.{lastDelimiter};
-ghost use Rattle.rules.specs.Partitions.{partitions, totalOf};
-ghost use Rattle.rules.specs.Print.{delimiterByte, countPrint, stampPrint, fitting, printCount, printStamp, lengthPrinted, bufferAfter};
+ghost use Rattle.rules.specs.Limits.{lastDelimiter, mostPartitions};
+ghost use Rattle.rules.specs.Partitions.{partitions};
+ghost use Rattle.rules.specs.Print.{delimiterByte, padded, countPrint, fitting, printCount, printStamp, lengthPrinted, bufferAfter};
 ghost use Rattle.buffer_print.specs.Printed.{Printed};
 use buffer_print::print_fields;
 use buffer_print::print_numbered;
+use decode::Decoded;
 use decode::decode;
 use layouts::MeasureAnswer;
 use layouts::measure;
@@ -51,7 +53,7 @@ pub fn print_stamp(
             if basis.total < encoded {
                 return PrintAnswer::Refused(refusals::BEYOND_TOTAL);
             }
-            stamp_of(layout, starts, ends, encoded, buffer)
+            stamp_at(layout, decode(starts, ends, encoded), buffer)
         }
         Acceptance::Refused(k) => PrintAnswer::Refused(k),
     }
@@ -69,19 +71,12 @@ fn count_of(layout: Layout, count: u64, buffer: &mut [u8]) -> PrintAnswer
     print_fields(delimiter, count, &moduli[..n], &offsets[..n], buffer)
 }
 
-fn stamp_of(
-    layout: Layout,
-    starts: &[u64],
-    ends: &[u64],
-    encoded: u64,
-    buffer: &mut [u8],
-) -> PrintAnswer
+// Prints a count in its partition as a stamp.
+pub fn stamp_at(layout: Layout, place: Decoded, buffer: &mut [u8]) -> PrintAnswer
     requires { ⌜ LayoutFacts layout ⌝ }
-    requires { ⌜ PartitionsFacts (productOf layout) (partitions (now starts) (now ends)) ⌝ }
-    requires { ⌜ encoded ≤ totalOf (partitions (now starts) (now ends)) ⌝ }
-    ensures { λ r. ⌜ Printed (fitting (length (now (buffer .entry))) (stampPrint layout (partitions (now (starts .entry)) (now (ends .entry))) encoded)) r (now (buffer .entry)) (now (buffer .exit)) ⌝ }
+    requires { ⌜ (place .partition < mostPartitions) × (place .count < productOf layout) ⌝ }
+    ensures { λ r. ⌜ Printed (fitting (length (now (buffer .entry))) (padded 1 (place .partition + 1) ++ (47 ∷ countPrint layout (place .count)))) r (now (buffer .entry)) (now (buffer .exit)) ⌝ }
 {
-    let place = decode(starts, ends, encoded);
     let partition = place.partition;
     let count = place.count;
     let n = layout.n;

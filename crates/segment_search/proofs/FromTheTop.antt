@@ -1,6 +1,6 @@
 -- The ways out of a search from the top: the row is the definition's.
 use Prim.Native.Nat.{ℕ, _-_, _≤_, _<_}
-use mathlib.Core.Path.{_≡_, refl, sym, _∙_}
+use mathlib.Core.Path.{_≡_, sym, _∙_}
 use mathlib.Core.Bool.{Bool, true, false}
 use mathlib.Core.Option.{Option, some, none}
 use mathlib.Core.List.{List}
@@ -32,16 +32,18 @@ pub record CountLeft (counts : List ℕ) (e row : ℕ) : Type 0 where
   pub within : row ≤ length counts
   pub same : segmentOf counts e ≡ lastBelow (λ i. leb (getD counts i 0) e) row
 
-pub count-start : (counts : List ℕ) (e : ℕ) → CountLeft counts e (length counts)
+pub count-start : (counts : List ℕ) (e n : ℕ) → n ≡ length counts → CountLeft counts e n
 unfolding segmentOf
-count-start counts e = record { within = omega arith; same = refl }
+count-start counts e n en = record { within = omega arith; same = rw en }
 
+-- the code has the count x of the row, wherever it lies
 module _ (counts : List ℕ) (e row : ℕ) (w : CountLeft counts e row) where
-  pub count-here : 0 < row → getD counts (row - 1) 0 ≤ e → some (row - 1) ≡ segmentOf counts e
-  count-here h t = row-here (λ i. leb (getD counts i 0) e) _ row (w .same) h (le-leb _ _ t)
+  module _ (h : 0 < row) (x : ℕ) (ex : x ≡ getD counts (row - 1) 0) where
+    pub count-here : x ≤ e → some (row - 1) ≡ segmentOf counts e
+    count-here t = row-here (λ i. leb (getD counts i 0) e) _ row (w .same) h (le-leb _ _ (rw ex at t))
 
-  pub count-down : 0 < row → e < getD counts (row - 1) 0 → CountLeft counts e (row - 1)
-  count-down h t = record { within = omega (arith, w .within); same = row-down (λ i. leb (getD counts i 0) e) _ row (w .same) h (lt-leb _ _ t) }
+    pub count-down : e < x → CountLeft counts e (row - 1)
+    count-down t = record { within = omega (arith, w .within); same = row-down (λ i. leb (getD counts i 0) e) _ row (w .same) h (lt-leb _ _ (rw ex at t)) }
 
   pub count-none : row ≤ 0 → none ≡ segmentOf counts e
   count-none h = row-none (λ i. leb (getD counts i 0) e) _ row (w .same) h
@@ -50,21 +52,21 @@ pub record TimeLeft (times : List ℤ) (t : ℤ) (row : ℕ) : Type 0 where
   pub within : row ≤ length times
   pub same : segmentAt times t ≡ lastBelow (λ i. leZ (getD times i (pos 0)) t) row
 
-pub time-start : (times : List ℤ) (t : ℤ) → TimeLeft times t (length times)
+pub time-start : (times : List ℤ) (t : ℤ) (n : ℕ) → n ≡ length times → TimeLeft times t n
 unfolding segmentAt
-time-start times t = record { within = omega arith; same = refl }
+time-start times t n en = record { within = omega arith; same = rw en }
 
--- a time is its bits in the loop: each law reads them back
+-- a time is its bits in the loop: each law reads them back; x is the row's time, wherever it lies
 module _ (times : List ℤ) (t : ℤ) (row : ℕ) (w : TimeLeft times (toZ w64 (ofZ w64 t)) row) (st : SFits w64 t) where
-  module _ (h : 0 < row) (s : SFits w64 (getD times (row - 1) (pos 0))) where
-    pub time-here : leZ (toZ w64 (ofZ w64 (getD times (row - 1) (pos 0)))) (toZ w64 (ofZ w64 t)) ≡ true → some (row - 1) ≡ segmentAt times t
-    time-here b = row-here (λ i. leZ (getD times i (pos 0)) t) _ row (simp (toZ-ofZ st) at (w .same)) h (rw (toZ-ofZ s, toZ-ofZ st) at b)
+  module _ (h : 0 < row) (x : ℤ) (ex : x ≡ getD times (row - 1) (pos 0)) (s : SFits w64 x) where
+    pub time-here : leZ (toZ w64 (ofZ w64 x)) (toZ w64 (ofZ w64 t)) ≡ true → some (row - 1) ≡ segmentAt times t
+    time-here b = row-here (λ i. leZ (getD times i (pos 0)) t) _ row (simp (toZ-ofZ st) at (w .same)) h (rw (toZ-ofZ s, toZ-ofZ st, ex) at b)
 
-    pub time-down : leZ (toZ w64 (ofZ w64 (getD times (row - 1) (pos 0)))) (toZ w64 (ofZ w64 t)) ≡ false → TimeLeft times (toZ w64 (ofZ w64 t)) (row - 1)
+    pub time-down : leZ (toZ w64 (ofZ w64 x)) (toZ w64 (ofZ w64 t)) ≡ false → TimeLeft times (toZ w64 (ofZ w64 t)) (row - 1)
     time-down b =
         record {
           within = omega (arith, w .within);
-          same = row-down (λ i. leZ (getD times i (pos 0)) (toZ w64 (ofZ w64 t))) _ row (w .same) h (rw (toZ-ofZ s) at b);
+          same = row-down (λ i. leZ (getD times i (pos 0)) (toZ w64 (ofZ w64 t))) _ row (w .same) h (rw (toZ-ofZ s, ex) at b);
         }
 
   pub time-none : row ≤ 0 → none ≡ segmentAt times t

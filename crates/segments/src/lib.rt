@@ -2,7 +2,7 @@
 ghost use mathlib.Core.Path.{_≡_};
 ghost use Prim.Native.Nat.{_≤_, min};
 ghost use Rattle.rules.specs.Segments.{segments, stepsBack};
-ghost use Rattle.segments.specs.Rows.{checkAnswer, acceptedSegments, Rising};
+ghost use Rattle.segments.specs.Rows.{checkAnswer, acceptedSegments, lengthsOk, Rising};
 use crate::row::grows;
 use crate::row::last_row_ok;
 use crate::row::overtakes;
@@ -25,18 +25,9 @@ pub fn check(unit: u64, total: u64, counts: &[u64], times: &[i64], rates: &[u64]
     ensures { λ r. ⌜ checkAnswer r ≡ acceptedSegments unit total (segments (now (counts .entry)) (now (times .entry)) (now (rates .entry))) ⌝ }
 {
     let n = counts.len();
-    let shortest = smaller(n, smaller(times.len(), rates.len()));
-    if times.len() != n {
-        return CheckAnswer::Refused(refusals::segments(shortest));
-    }
-    if rates.len() != n {
-        return CheckAnswer::Refused(refusals::segments(shortest));
-    }
-    if n < 1 {
-        return CheckAnswer::Refused(refusals::segments(shortest));
-    }
-    if MOST_SEGMENTS < n {
-        return CheckAnswer::Refused(refusals::segments(shortest));
+    if !lengths_ok(n, times.len(), rates.len()) {
+        let length = shortest(n, times.len(), rates.len());
+        return CheckAnswer::Refused(refusals::segments(length));
     }
     let last = n - 1;
     let mut i = 0;
@@ -55,6 +46,28 @@ pub fn check(unit: u64, total: u64, counts: &[u64], times: &[i64], rates: &[u64]
         return CheckAnswer::Refused(refusals::segments(last));
     }
     CheckAnswer::Accepted
+}
+
+// Whether the lists are of one length, neither empty nor too long.
+pub fn lengths_ok(counts: usize, times: usize, rates: usize) -> bool
+    ensures { λ r. ⌜ r ≡ lengthsOk counts times rates ⌝ }
+{
+    if times != counts {
+        return false;
+    }
+    if rates != counts {
+        return false;
+    }
+    if counts < 1 {
+        return false;
+    }
+    counts <= MOST_SEGMENTS
+}
+
+pub fn shortest(counts: usize, times: usize, rates: usize) -> usize
+    ensures { λ r. ⌜ r ≡ min counts (min times rates) ⌝ }
+{
+    smaller(counts, smaller(times, rates))
 }
 
 fn smaller(a: usize, b: usize) -> usize

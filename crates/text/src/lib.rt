@@ -8,7 +8,7 @@ ghost use Rattle.rules.specs.Text.{parseText, readText};
 ghost use Rattle.rules.specs.Stamp.{parseStamp, encode, readStamp};
 ghost use Rattle.encode.specs.Listed.{Listed};
 ghost use Rattle.encode.specs.Encoded.{encodedAnswer};
-ghost use Rattle.parse.specs.ParsedStamp.{parsedAnswer};
+ghost use Rattle.parse.specs.ParsedStamp.{parsedAnswer, capped};
 use encode::Encoded;
 use encode::encode_first;
 use encode::encode_named;
@@ -66,7 +66,15 @@ pub fn stamp_in<'a>(
     requires { ⌜ Listed (partitions (now starts) (now ends)) ⌝ }
     ensures { λ r. ⌜ readAnswer r ≡ andThen (parseStamp (take n (now (moduli .entry))) (take n (now (offsets .entry))) (now (text .entry))) (encode (partitions (now (starts .entry)) (now (ends .entry)))) ⌝ }
 {
-    encode_parsed(starts, ends, parse_stamp(&moduli[..n], &offsets[..n], text))
+    encode_parsed(starts, ends, parsed_in(moduli, offsets, n, text))
+}
+
+// A stamp as it is written, under a layout whose fields are the first `n` slots.
+pub fn parsed_in<'a>(moduli: &'a [u64], offsets: &'a [u64], n: usize, text: &[u8]) -> ParsedStamp
+    requires { ⌜ (1 ≤ n) × (n ≤ length (now moduli)) × (n ≤ length (now offsets)) ⌝ }
+    ensures { λ r. ⌜ parsedAnswer r ≡ capped (parseStamp (take n (now (moduli .entry))) (take n (now (offsets .entry))) (now (text .entry))) ⌝ }
+{
+    parse_stamp(&moduli[..n], &offsets[..n], text)
 }
 
 // In the partition named, or in the first that holds the count.
@@ -81,7 +89,8 @@ fn encode_parsed(starts: &[u64], ends: &[u64], parsed: ParsedStamp) -> ReadAnswe
     }
 }
 
-fn as_reading(encoded: Encoded) -> ReadAnswer
+// The reading of an encoded count.
+pub fn as_reading(encoded: Encoded) -> ReadAnswer
     ensures { λ r. ⌜ readAnswer r ≡ andThen (encodedAnswer encoded) (λ e. answer (reading e)) ⌝ }
 {
     match encoded {

@@ -1,5 +1,5 @@
-use Rattle.conversion.proofs.Conversions.{out-of-range, before-all, time-in-lists, stoppable, row-to-ticks, sum-fits, count-is}
 use borrow.Author.Needs.{needs}
+use Rattle.conversion.proofs.Conversions.{out-of-range, before-all, time-in-lists, has-count, row-to-ticks, row-sum-fits, count-is}
 use Rattle.conversion.proofs.count_within.Statement.{statement}
 use Rattle.conversion.proofs.count_within.Tie as tie
 
@@ -12,10 +12,8 @@ count-within-spec =
     (λ c κs. search needs)
     (λ c. search needs)
     (λ c κs. search (time-in-lists, needs))
-    (λ c κs. search (row-to-ticks, needs))
-    (λ c. search (sum-fits, needs))
-    (λ c κs. search (stoppable, needs))
-    (λ c κs. search needs)
+    (λ c κs. search (has-count, needs))
+    (λ c κs. (search (row-to-ticks, needs), search (row-sum-fits, needs)))
     (λ c. search needs)
     (λ c. search (count-is, needs))
     (λ c. search (before-all, needs)))

@@ -1,5 +1,5 @@
-use Rattle.conversion.proofs.Conversions.{beyond-total, before-first, count-in-lists, row-to-time, time-is}
 use borrow.Author.Needs.{needs}
+use Rattle.conversion.proofs.Conversions.{beyond-total, before-first, count-in-lists, row-to-time, time-is}
 use Rattle.conversion.proofs.time_within.Statement.{statement}
 use Rattle.conversion.proofs.time_within.Tie as tie
 

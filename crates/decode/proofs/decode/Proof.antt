@@ -1,6 +1,6 @@
 use Prim.Native.Nat.{_-_}
+use mathlib.Core.Path.{refl}
 use lib.ListN.{length}
-use native.Mathlib.Nat.{le-of-lt}
 use native.Mathlib.Omega.{arith}
 use borrow.Author.Needs.{needs}
 use Rattle.rules.specs.Partitions.{partitions}
@@ -26,18 +26,22 @@ decode-spec =
     (λ c. omega arith)
     (λ c. omega arith)
     (λ c. omega arith)
-    (λ c. search (in-order, needs))
-    (λ c. search (search-fits, needs))
+    (λ c. search (in-order, refl, needs))
+    (λ c. search (search-fits, refl, needs))
     (λ c. omega arith)
     (λ c. omega arith)
     (λ c. omega arith)
-    (λ c. search (here-fits, le-of-lt, needs))
-    (λ c. (search (here-partition, needs), search (here-partition, decoded-count, needs)))
+    (λ c. here-fits _ _ _ (c .before .before .before .before .before .before .pre) _ _ (c .before .before .before .before .before .loop .inv) _ _ refl refl (c .before .if1 .taken))
+    (λ c.
+    let pre = c .before .before .before .before .before .before .pre in
+    let inv = c .before .before .before .before .before .loop .inv in
+    let here = here-partition _ _ _ pre _ _ inv _ _ refl refl (c .before .if1 .taken) in
+    (here, decoded-count _ _ _ pre _ _ inv _ refl here))
     (λ c. omega arith)
     (λ c. omega arith)
-    (λ c. search (search-next, needs))
+    (λ c. search (search-next, refl, needs))
     (λ c. omega arith)
     (λ c. omega arith)
     (λ c. omega arith)
-    (λ c. search (last-fits, needs))
-    (λ c. (search (last-partition, needs), search (last-partition, decoded-count, needs))))
+    (λ c. search (last-fits, refl, needs))
+    (λ c. (search (last-partition, refl, needs), search (last-partition, decoded-count, refl, needs))))

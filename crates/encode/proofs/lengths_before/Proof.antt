@@ -1,5 +1,5 @@
 use Prim.Native.Nat.{_≤_, _-_}
-use mathlib.Core.Path.{_≡_}
+use mathlib.Core.Path.{_≡_, refl}
 use borrow.Author.Needs.{needs}
 use Rattle.rules.specs.Partitions.{partitions, lengthsBefore}
 use Rattle.encode.proofs.Sums.{before-start, before-next, ends-at-start, before-fits, before-all}
@@ -16,13 +16,13 @@ loop-holds : tie.Need-loop-holds Inv-loop μ-loop
 loop-holds c = (search needs, search (before-start, needs))
 
 sub-before : tie.Need-sub-before Inv-loop μ-loop
-sub-before c = ends-at-start _ _ (c .before .before .before .before .pre .0) _ (search needs)
+sub-before c = ends-at-start _ _ _ _ _ refl refl (c .before .before .before .before .pre .0) _ refl (search needs)
 
 add-before : tie.Need-add-before Inv-loop μ-loop
-add-before c = before-fits _ _ (c .before .before .before .before .pre .0) _ _ (search needs) (search needs)
+add-before c = before-fits _ _ _ _ _ refl refl (c .before .before .before .before .pre .0) _ refl (search needs) _ (search needs)
 
 loop-again : tie.Need-loop-again Inv-loop μ-loop
-loop-again c = (search needs, search (before-next, needs))
+loop-again c = (search needs, search (before-next, refl, needs))
 
 pub lengths-before-spec : {M : Type 1} → statement M
 lengths-before-spec =

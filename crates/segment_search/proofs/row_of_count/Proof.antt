@@ -1,3 +1,4 @@
+use mathlib.Core.Path.{refl}
 use borrow.Author.Needs.{needs}
 use Rattle.segment_search.proofs.FromTheTop.{CountLeft, count-start, count-here, count-down, count-none}
 use Rattle.segment_search.proofs.row_of_count.Statement.{statement}
@@ -15,13 +16,13 @@ row-of-count-spec =
     (tie.spec
     Inv-loop
     μ-loop
-    (λ c. search (count-start, needs))
+    (λ c. search (count-start, refl, needs))
     (λ c. search needs)
     (λ c. search needs)
     (λ c. search needs)
     (λ c. search needs)
-    (λ c. search (count-here, needs))
+    (λ c. search (count-here, refl, needs))
     (λ c. search needs)
     (λ c. search needs)
-    (λ c. search (count-down, needs))
+    (λ c. search (count-down, refl, needs))
     (λ c. search (count-none, needs)))

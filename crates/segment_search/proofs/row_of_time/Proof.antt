@@ -1,3 +1,4 @@
+use mathlib.Core.Path.{refl}
 use borrow.Author.Needs.{needs}
 use mir.Val.{toZ}
 use mir.Syntax.{w64}
@@ -17,13 +18,13 @@ row-of-time-spec =
     (tie.spec
     Inv-loop
     μ-loop
-    (λ c. search (time-start, needs))
+    (λ c. search (time-start, refl, needs))
     (λ c. search needs)
     (λ c. search needs)
     (λ c. search needs)
     (λ c. search needs)
-    (λ c. search (time-here, needs))
+    (λ c. search (time-here, refl, needs))
     (λ c. search needs)
     (λ c. search needs)
-    (λ c. search (time-down, needs))
+    (λ c. search (time-down, refl, needs))
     (λ c. search (time-none, needs)))
