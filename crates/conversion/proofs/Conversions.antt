@@ -42,6 +42,12 @@ module _ (total c : ℕ) where
 
 -- the code has n counts and the next one, wherever they lie
 module _ (counts : List ℕ) (i : ℕ) (w : HasCount counts i) (n : ℕ) (en : n ≡ length counts) where
+  pub next-fits : Fits w64 n → Fits w64 (i + 1)
+  next-fits f = record { fits = omega (arith, w .there, f .fits) }
+
+  pub next-inside : i + 1 < n → i + 1 < length counts
+  next-inside h = rw en at h
+
   pub next-positive-at : i + 1 < n → (x : ℕ) → x ≡ getD counts (i + 1) 0 → 1 ≤ x
   next-positive-at h x e = rw e (w .next (rw en at h))
 

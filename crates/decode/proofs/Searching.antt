@@ -12,7 +12,7 @@ use Rattle.base.proofs.Tests.{by-test}
 use Rattle.rules.specs.Partitions.{Partitions, partitions, partitionsIn, lengthsBefore, totalOf}
 use Rattle.rules.specs.Print.{partitionOf, decodedIn}
 use Rattle.roundtrip.proofs.Encoded.{before-up, before-total, partition-is, partition-total}
-use Rattle.encode.proofs.Sums.{before-start, before-next, before-fits, ends-at-start}
+use Rattle.encode.proofs.Sums.{before-start, before-next, before-fits, ends-at-start, in-ends}
 use Rattle.decode.specs.Decodable.{Decodable}
 
 -- the search is at partition i: the partitions before it are passed
@@ -27,6 +27,19 @@ module _ (ss es : List ℕ) (e : ℕ) (f : Decodable (partitions ss es) e) where
 
   pub search-start : Searching p e 0 0
   search-start = record { below = f .some; sum = before-start ss es; passed = omega arith }
+
+  module _ (i before : ℕ) (at : Searching p e i before) where
+    pub start-there : i < length ss
+    start-there = at .below
+
+    pub end-there : i < length es
+    end-there = in-ends ss es (f .listed) (length ss) refl i (at .below)
+
+    pub last-sum : before ≤ e
+    last-sum = at .passed
+
+    pub next-fits : (n : ℕ) → n ≡ length ss → Fits w64 n → Fits w64 (i + 1)
+    next-fits n en fn = record { fits = omega (arith, at .below, fn .fits) }
 
   -- the code has n partitions and this one, wherever they lie
   module _ (i before : ℕ) (at : Searching p e i before) (start end : ℕ) (s : start ≡ getD ss i 0) (t : end ≡ getD es i 0) where

@@ -38,6 +38,9 @@ module _ (ss es : List ℕ) where
   unfolding lengthsBefore
   before-start = sym (sum-start (lengthOf p))
 
+  pub in-ends : Listed p → (n : ℕ) → n ≡ length ss → (i : ℕ) → i < n → i < length es
+  in-ends f n en i h = omega (arith, f .one-length)
+
   -- partition i, wherever the code has it from
   module _ (i start end : ℕ) (s : start ≡ getD ss i 0) (e : end ≡ getD es i 0) where
     pub before-next : (b : ℕ) → b ≡ lengthsBefore p i → b + (end - start) ≡ lengthsBefore p (i + 1)
@@ -91,6 +94,17 @@ module _ (ss es : List ℕ) where
   pub before-all : (i n b : ℕ) → b ≡ lengthsBefore p i → i ≤ n → n ≤ i → b ≡ lengthsBefore p n
   before-all i n b e h k = let same : i ≡ n = omega arith in rw same at e
 
+  -- the row of a partition that is named
+  module _ (number n : ℕ) (en : n ≡ length ss) (low : 1 ≤ number) (high : number ≤ n) where
+    pub named-start : number - 1 < length ss
+    named-start = omega arith
+
+    pub named-before : number - 1 ≤ length ss
+    named-before = omega arith
+
+    pub named-end : Listed p → number - 1 < length es
+    named-end f = omega (arith, f .one-length)
+
   -- the ways out for a partition that is named
   module _ (number count : ℕ) where
     pub zero-named : number < 1 → refuse 10 ≡ encodeNamed p number count
@@ -105,6 +119,9 @@ module _ (ss es : List ℕ) where
       pub named-outside : t ≡ false → refuse 11 ≡ encodeNamed p number count
       unfolding encodeNamed unless
       named-outside out = rw (le-leb 1 number low, le-leb number (length ss) (rw en at high), holds-test (number - 1) start end s e count t h ∙ out)
+
+      pub named-fits : (b : ℕ) → Listed p → b ≡ lengthsBefore p (number - 1) → t ≡ true → Fits w64 (b + (count - start))
+      named-fits b f q y = encoded-fits (number - 1) start end s e count t h b f n en (omega arith) q y
 
       pub named-inside : (b : ℕ) → t ≡ true → b ≡ lengthsBefore p (number - 1) → answer (b + (count - start)) ≡ encodeNamed p number count
       unfolding encodeNamed unless encodedIn

@@ -45,6 +45,9 @@ module _ (counts : List ℕ) (e row : ℕ) (w : CountLeft counts e row) where
     pub count-down : e < x → CountLeft counts e (row - 1)
     count-down t = record { within = omega (arith, w .within); same = row-down (λ i. leb (getD counts i 0) e) _ row (w .same) h (lt-leb _ _ (rw ex at t)) }
 
+  pub count-inside : 0 < row → row - 1 < length counts
+  count-inside h = omega (arith, w .within)
+
   pub count-none : row ≤ 0 → none ≡ segmentOf counts e
   count-none h = row-none (λ i. leb (getD counts i 0) e) _ row (w .same) h
 
@@ -68,6 +71,9 @@ module _ (times : List ℤ) (t : ℤ) (row : ℕ) (w : TimeLeft times (toZ w64 (
           within = omega (arith, w .within);
           same = row-down (λ i. leZ (getD times i (pos 0)) (toZ w64 (ofZ w64 t))) _ row (w .same) h (rw (toZ-ofZ s, ex) at b);
         }
+
+  pub time-inside : 0 < row → row - 1 < length times
+  time-inside h = omega (arith, w .within)
 
   pub time-none : row ≤ 0 → none ≡ segmentAt times t
   time-none h = row-none (λ i. leZ (getD times i (pos 0)) t) _ row (simp (toZ-ofZ st) at (w .same)) h

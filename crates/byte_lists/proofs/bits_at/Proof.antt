@@ -1,0 +1,27 @@
+use borrow.Author.Needs.{needs}
+use Rattle.byte_lists.proofs.Eight.{joined-is}
+use Rattle.byte_lists.proofs.bits_at.Statement.{statement}
+use Rattle.byte_lists.proofs.bits_at.Tie as tie
+
+pub bits-at-spec : {M : Type 1} → statement M
+bits-at-spec =
+    tie.close
+    (tie.spec
+    (λ c. search needs)
+    (λ c. search needs)
+    (λ c. search needs)
+    (λ c. search needs)
+    (λ c. search needs)
+    (λ c. search needs)
+    (λ c. search needs)
+    (λ c. search needs)
+    (λ c. search needs)
+    (λ c. search needs)
+    (λ c. search needs)
+    (λ c. search needs)
+    (λ c. search needs)
+    (λ c. search needs)
+    (λ c. search needs)
+    (λ c. search needs)
+    (λ c κs. search needs)
+    (λ c. search (joined-is, needs)))

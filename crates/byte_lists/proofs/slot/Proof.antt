@@ -1,0 +1,13 @@
+use borrow.Author.Needs.{needs}
+use Rattle.byte_lists.proofs.Eight.{empty-slot}
+use Rattle.byte_lists.proofs.slot.Statement.{statement}
+use Rattle.byte_lists.proofs.slot.Tie as tie
+
+pub slot-spec : {M : Type 1} → statement M
+slot-spec =
+    tie.close
+    (tie.spec
+    (λ c κs. search needs)
+    (λ c κs. search needs)
+    (λ c. search needs)
+    (λ c. search (empty-slot, needs)))

@@ -1,0 +1,2 @@
+-- A stamp's reading from its parse.
+pub mod Parsed

@@ -1,0 +1,2 @@
+-- Laws of the layout that bytes make, and of a row.
+pub mod Given

@@ -1,0 +1,152 @@
+// Count to time and time to count under tables that lie in bytes. A row's line is told by the functions that lists of numbers
+// use; only the loops that fetch a row are here.
+ghost use mathlib.Core.Path.{_≡_};
+ghost use Rattle.rules.specs.Answer.{timeAnswer, countAnswer};
+ghost use Rattle.rules.specs.Facts.{SegmentsFacts};
+ghost use Rattle.rules.specs.Time.{segmentOf, segmentAt, timeIn, countIn, timeOf, countAt};
+ghost use Rattle.tables.specs.Accept.{BasisFacts};
+ghost use Rattle.segment_search.specs.Found.{found};
+ghost use Rattle.conversion.specs.LastCount.{HasCount, lastCount};
+ghost use Rattle.c_rules.specs.Numbers.{numbers};
+ghost use Rattle.c_rules.specs.Numbers.{times as timesIn};
+ghost use Rattle.c_rules.specs.Tables.{partitionsFrom, segmentsFrom};
+use byte_lists::number_at;
+use byte_lists::rows;
+use byte_lists::time_at;
+use byte_tables::accept;
+use byte_tables::row_at;
+use conversion::count_of_row;
+use conversion::in_range;
+use conversion::time_of_row;
+use layouts::measure;
+use rules::CountAnswer;
+use rules::Layout;
+use rules::TimeAnswer;
+use segment_search::Found;
+use tables::Acceptance;
+
+// The time of an encoded count.
+pub fn time_of(
+    layout: Layout,
+    starts: &[u8],
+    ends: &[u8],
+    counts: &[u8],
+    times: &[u8],
+    rates: &[u8],
+    encoded: u64,
+) -> TimeAnswer
+    ensures { λ r. ⌜ timeAnswer r ≡ timeOf layout (partitionsFrom (now (starts .entry)) (now (ends .entry))) (segmentsFrom (now (counts .entry)) (now (times .entry)) (now (rates .entry))) encoded ⌝ }
+{
+    match accept(measure(layout), starts, ends, counts, times, rates) {
+        Acceptance::Accepted(b) => time_within(b.unit, b.total, counts, times, rates, encoded),
+        Acceptance::Refused(k) => TimeAnswer::Refused(k),
+    }
+}
+
+// The count at a time.
+pub fn count_at(
+    layout: Layout,
+    starts: &[u8],
+    ends: &[u8],
+    counts: &[u8],
+    times: &[u8],
+    rates: &[u8],
+    time: i64,
+) -> CountAnswer
+    ensures { λ r. ⌜ countAnswer r ≡ countAt layout (partitionsFrom (now (starts .entry)) (now (ends .entry))) (segmentsFrom (now (counts .entry)) (now (times .entry)) (now (rates .entry))) time ⌝ }
+{
+    match accept(measure(layout), starts, ends, counts, times, rates) {
+        Acceptance::Accepted(b) => count_within(b.unit, b.total, counts, times, rates, time),
+        Acceptance::Refused(k) => CountAnswer::Refused(k),
+    }
+}
+
+fn time_within(
+    unit: u64,
+    total: u64,
+    counts: &[u8],
+    times: &[u8],
+    rates: &[u8],
+    e: u64,
+) -> TimeAnswer
+    requires { ⌜ BasisFacts unit total ⌝ }
+    requires { ⌜ SegmentsFacts unit total (segmentsFrom (now counts) (now times) (now rates)) ⌝ }
+    ensures { λ r. ⌜ timeAnswer r ≡ timeIn unit total (segmentsFrom (now (counts .entry)) (now (times .entry)) (now (rates .entry))) e ⌝ }
+{
+    if total < e {
+        return TimeAnswer::Refused(refusals::BEYOND_TOTAL);
+    }
+    match row_of_count(counts, e) {
+        Found::Row(i) => TimeAnswer::Time(time_of_row(
+            unit,
+            row_at(counts, times, rates, i),
+            e,
+        )),
+        Found::Nothing => TimeAnswer::Refused(refusals::BEFORE_FIRST_SEGMENT),
+    }
+}
+
+fn count_within(
+    unit: u64,
+    total: u64,
+    counts: &[u8],
+    times: &[u8],
+    rates: &[u8],
+    t: i64,
+) -> CountAnswer
+    requires { ⌜ BasisFacts unit total ⌝ }
+    requires { ⌜ SegmentsFacts unit total (segmentsFrom (now counts) (now times) (now rates)) ⌝ }
+    ensures { λ r. ⌜ countAnswer r ≡ countIn unit total (segmentsFrom (now (counts .entry)) (now (times .entry)) (now (rates .entry))) t ⌝ }
+{
+    if !in_range(t) {
+        return CountAnswer::Refused(refusals::TIME_OUT_OF_RANGE);
+    }
+    match row_of_time(times, t) {
+        Found::Row(i) => count_of_row(
+            unit,
+            total,
+            row_at(counts, times, rates, i),
+            last_count(counts, i),
+            t,
+        ),
+        Found::Nothing => CountAnswer::Refused(refusals::BEFORE_FIRST_SEGMENT),
+    }
+}
+
+fn row_of_count(counts: &[u8], e: u64) -> Found
+    ensures { λ r. ⌜ found r ≡ segmentOf (numbers (now (counts .entry))) e ⌝ }
+{
+    let mut left = rows(counts);
+    while 0 < left {
+        if number_at(counts, left - 1) <= e {
+            return Found::Row(left - 1);
+        }
+        left -= 1;
+    }
+    Found::Nothing
+}
+
+fn row_of_time(times: &[u8], t: i64) -> Found
+    ensures { λ r. ⌜ found r ≡ segmentAt (timesIn (now (times .entry))) t ⌝ }
+{
+    let mut left = rows(times);
+    while 0 < left {
+        if time_at(times, left - 1) <= t {
+            return Found::Row(left - 1);
+        }
+        left -= 1;
+    }
+    Found::Nothing
+}
+
+// The last count of row `i`: the one before the next row's, or the greatest number there is.
+fn last_count(counts: &[u8], i: usize) -> u64
+    requires { ⌜ HasCount (numbers (now counts)) i ⌝ }
+    ensures { λ r. ⌜ r ≡ lastCount (numbers (now (counts .entry))) i ⌝ }
+{
+    let n = rows(counts);
+    if i + 1 < n {
+        return number_at(counts, i + 1) - 1;
+    }
+    u64::MAX
+}

@@ -1,0 +1,4 @@
+-- The C calls of request 5: numbers in bytes, the tables made of them, and what comes back.
+pub mod Numbers
+pub mod Tables
+pub mod Calls

@@ -1,0 +1,1 @@
+// What the C calls take and give: definitions alone.
