@@ -77,11 +77,7 @@ fn time_within(
         return TimeAnswer::Refused(refusals::BEYOND_TOTAL);
     }
     match row_of_count(counts, e) {
-        Found::Row(i) => TimeAnswer::Time(time_of_row(
-            unit,
-            row_at(counts, times, rates, i),
-            e,
-        )),
+        Found::Row(i) => TimeAnswer::Time(time_of_row(unit, row_at(counts, times, rates, i), e)),
         Found::Nothing => TimeAnswer::Refused(refusals::BEFORE_FIRST_SEGMENT),
     }
 }

@@ -1,0 +1,2 @@
+-- What is proved of the C calls, over the definitions of c_rules.
+pub mod Results

@@ -1,0 +1,3 @@
+-- What comes back, and that every result is an i64.
+pub mod Back
+pub mod Fitting
