@@ -1,4 +1,4 @@
-//! An independent second reading of the clock rules: document 01, sentence by sentence, and requests 1 to 4 of document
+//! An independent second reading of the clock rules: document 01, sentence by sentence, and requests 1 to 5 of document
 //! 02, in plain Rust.
 //!
 //! Words in quotation marks in the comments are document 01's or a request's. Every public call checks the tables it uses.
@@ -21,6 +21,7 @@ mod text;
 mod time;
 
 pub mod generate;
+pub mod host;
 pub mod random;
 pub mod script;
 pub mod tally;

@@ -5,7 +5,13 @@ use crate::{read_stamp, Layout, Partitions, Refusal};
 
 /// "Payload of any length, then clock text, then a two-byte trailer [..]. Message answer: the stamp's encoded count."
 pub fn read_message(layout: &Layout, partitions: Partitions, message: &[u8]) -> Result<u64, Refusal> {
-    // "21 under 2 bytes, 22 L is 0, 23 L above 96 or too far back, all in 17's place": before the tables.
+    let text = text_of(message)?;
+    // A place counts from the text's first byte.
+    read_stamp(layout, partitions, text)
+}
+
+/// "21 under 2 bytes, 22 L is 0, 23 L above 96 or too far back, all in 17's place": before the tables.
+pub(crate) fn text_of(message: &[u8]) -> Result<&[u8], Refusal> {
     if message.len() < 2 {
         return Err(Refusal::new(21));
     }
@@ -19,6 +25,6 @@ pub fn read_message(layout: &Layout, partitions: Partitions, message: &[u8]) -> 
     if l > LONGEST_TEXT || l > before.len() {
         return Err(Refusal::new(23));
     }
-    // "The text is the L bytes just before the trailer." A place counts from its first byte.
-    read_stamp(layout, partitions, &before[before.len() - l..])
+    // "The text is the L bytes just before the trailer."
+    Ok(&before[before.len() - l..])
 }

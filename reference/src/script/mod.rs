@@ -7,6 +7,7 @@ mod tables;
 
 use std::io::{self, BufRead, Read, Write};
 
+pub(crate) use parse::{hex, number, time};
 pub use parse::{parse, KernelQuestion, Line, Question};
 pub use session::{put_bytes, Session};
 pub use tables::Tables;

@@ -121,7 +121,7 @@ pub fn parse<'a>(line: &[u8], buffer: &'a mut [u8; MOST_KERNEL]) -> Option<Line<
 }
 
 /// "decimal digits, leading zeros allowed", a u64.
-fn number(word: &[u8]) -> Option<u64> {
+pub(crate) fn number(word: &[u8]) -> Option<u64> {
     if word.is_empty() {
         return None;
     }
@@ -146,14 +146,14 @@ fn up_to(word: &[u8], most: usize) -> Option<usize> {
 }
 
 /// "with `-` in front of a negative time", an i64. `-0` is taken as 0.
-fn time(word: &[u8]) -> Option<i64> {
+pub(crate) fn time(word: &[u8]) -> Option<i64> {
     match word {
         [b'-', digits @ ..] => i64::try_from(-i128::from(number(digits)?)).ok(),
         _ => i64::try_from(number(word)?).ok(),
     }
 }
 
-fn hex(digit: u8) -> Option<u8> {
+pub(crate) fn hex(digit: u8) -> Option<u8> {
     match digit {
         b'0'..=b'9' => Some(digit - b'0'),
         b'a'..=b'f' => Some(digit - b'a' + 10),

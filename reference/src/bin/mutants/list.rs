@@ -96,8 +96,8 @@ pub const MUTANTS: &[Mutant] = &[
     mutant(
         "tables-before-21",
         "message.rs",
-        "    if message.len() < 2 {",
-        "    partitions.check(layout.check()?.p)?; if message.len() < 2 {",
+        "let text = text_of(message)?;",
+        "partitions.check(layout.check()?.p)?; let text = text_of(message)?;",
     ),
     // Printing.
     mutant("width-of-modulus", "print.rs", "digits(modulus + offset - 1)", "digits(modulus)"),
@@ -274,8 +274,8 @@ pub const MUTANTS: &[Mutant] = &[
     mutant(
         "place-in-the-message",
         "message.rs",
-        "read_stamp(layout, partitions, &before[before.len() - l..])",
-        "read_stamp(layout, partitions, &before[before.len() - l..]).map_err(|refusal| match refusal.number { 2 => refusal, _ => Refusal { place: refusal.place.map(|at| at + before.len() - l), ..refusal } })",
+        "read_stamp(layout, partitions, text)",
+        "read_stamp(layout, partitions, text).map_err(|refusal| match refusal.number { 2 => refusal, _ => Refusal { place: refusal.place.map(|at| at + message.len() - 2 - text.len()), ..refusal } })",
     ),
     mutant(
         "22-and-23-exchanged",
