@@ -3,6 +3,7 @@
 mod broken;
 mod catalogue;
 mod doubles;
+pub mod host;
 mod kernels;
 mod large;
 mod lines;

@@ -91,7 +91,7 @@ impl Writer {
 }
 
 /// A count to print: around 0 and P, or anywhere below.
-fn count(random: &mut Random, tables: &Tables) -> u64 {
+pub fn count(random: &mut Random, tables: &Tables) -> u64 {
     let p = p(&tables.layout).max(1);
     let (any, size) = (random.between(0, p - 1), random.magnitude(p - 1));
     match random.below(12) {
@@ -103,7 +103,7 @@ fn count(random: &mut Random, tables: &Tables) -> u64 {
 }
 
 /// A buffer's length, around the print's.
-fn len(random: &mut Random, print: Result<usize, Refusal>) -> usize {
+pub fn len(random: &mut Random, print: Result<usize, Refusal>) -> usize {
     let print = print.unwrap_or(8);
     let any = random.below(print + 8);
     let near = print + random.below(3) - 1;
@@ -111,7 +111,7 @@ fn len(random: &mut Random, print: Result<usize, Refusal>) -> usize {
 }
 
 /// An encoded count: around the partitions' and segments' ends, or anywhere.
-fn encoded(random: &mut Random, tables: &Tables) -> u64 {
+pub fn encoded(random: &mut Random, tables: &Tables) -> u64 {
     let total = total(tables);
     let any = random.between(0, total);
     match random.below(16) {
@@ -137,7 +137,7 @@ fn encoded(random: &mut Random, tables: &Tables) -> u64 {
 }
 
 /// A time: around the segments' times and their lines' ends, at a tick, around the range's ends, or anywhere.
-fn time(random: &mut Random, tables: &Tables) -> i64 {
+pub fn time(random: &mut Random, tables: &Tables) -> i64 {
     let total = total(tables);
     let rows = tables.count.len().min(tables.time.len()).min(tables.rate.len());
     let far = random.pick(&[LATEST, -LATEST, i64::MIN, i64::MAX]);

@@ -2,6 +2,7 @@
 //! broken alone. The clauses, rules and places are found here a second time, from the question and the tables, not by the
 //! library. For kernel text the comment before a question says what it breaks, and where; for raw counters it says so too.
 
+mod host;
 mod raw;
 mod tables;
 mod text;
@@ -10,6 +11,7 @@ use std::collections::BTreeMap;
 
 use crate::script::{parse, Line, Question, Session, Tables, MOST_KERNEL};
 use crate::DoubleSegment;
+pub use host::{HostTally, POSSIBLE};
 pub use tables::first_fault;
 use tables::{layout_faults, partition_faults, segment_faults};
 use text::Text;
