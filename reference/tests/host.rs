@@ -3,7 +3,6 @@
 mod common;
 
 use reference::host::*;
-use reference::script::Tables;
 
 /// Table A's lists as bytes.
 fn a() -> [Vec<u8>; LISTS] {
@@ -256,28 +255,6 @@ fn reading_4_numbers_have_64_bits() {
     for (delimiter, print) in (1..).zip([b"12.3", b"12:3", b"12-3", b"12,3", b"12 3"]) {
         let call = Call { delimiter, ..count(Name::PrintCount, 123, &[0; 4]) };
         assert_eq!(made(&call), (4, print.to_vec()));
-    }
-}
-
-/// One table, asked by the script and by a host.
-#[test]
-fn each_equals_the_inner_call_on_the_same_numbers() {
-    let (layout, partitions, segments) = reference::table_a();
-    let tables = Tables {
-        layout,
-        start: partitions.start.to_vec(),
-        end: partitions.end.to_vec(),
-        count: segments.count.to_vec(),
-        time: segments.time.to_vec(),
-        rate: segments.rate.to_vec(),
-    };
-    for e in 0..1_210 {
-        let time = reference::time_of(&tables.layout, tables.partitions(), tables.segments(), e);
-        let (number, buffer) = made(&count(Name::TimeOf, e, &[0; 8]));
-        match time {
-            Ok(time) => assert_eq!((number, buffer), (0, time.to_le_bytes().to_vec())),
-            Err(refusal) => assert_eq!((number, buffer), (-i64::from(refusal.number), vec![0; 8])),
-        }
     }
 }
 

@@ -1,8 +1,9 @@
-//! Writes a seeded script and the answers it expects, and says on standard error what the script brings up.
+//! Writes a seeded script and the answers it expects, and says on standard error what the script brings up. Without a seed it
+//! writes what is stored: the script, and a host's calls with their answers.
 
 use std::process::ExitCode;
 
-use reference::generate::{script, STORED_COUNT, STORED_SEED};
+use reference::generate::{host, script, STORED_COUNT, STORED_SEED};
 use reference::{script::answers, tally::tally};
 
 const USAGE: &str = "generate [SEED COUNT] [--script PATH] [--answers PATH]";
@@ -34,10 +35,13 @@ fn run() -> Result<(), String> {
         [seed, count] => (seed, count),
         _ => return Err(USAGE.to_string()),
     };
+    if numbers.is_empty() {
+        write_calls()?;
+    }
     let script = script(seed, count);
     let answers = answers(&script);
-    std::fs::write(&script_path, &script).map_err(|error| format!("{}: {}", script_path, error))?;
-    std::fs::write(&answers_path, &answers).map_err(|error| format!("{}: {}", answers_path, error))?;
+    write(&script_path, &script)?;
+    write(&answers_path, &answers)?;
     let tally = tally(&script);
     for (outcome, times) in &tally.outcomes {
         eprintln!("{:>8} {}", times, outcome);
@@ -58,5 +62,22 @@ fn run() -> Result<(), String> {
         eprintln!("unexpected {}", unexpected);
     }
     eprintln!("{:>8} bytes of script, {} bytes of answers", script.len(), answers.len());
+    Ok(())
+}
+
+fn write(path: &str, bytes: &[u8]) -> Result<(), String> {
+    std::fs::write(path, bytes).map_err(|error| format!("{}: {}", path, error))
+}
+
+/// The host's calls and their answers.
+fn write_calls() -> Result<(), String> {
+    const FOLDER: &str = "../host/samples";
+    std::fs::create_dir_all(FOLDER).map_err(|error| format!("{}: {}", FOLDER, error))?;
+    let calls = host::stored_calls(host::STORED_SEED);
+    let answers = reference::host::answers(&calls);
+    write(&[FOLDER, "/calls"].concat(), &calls)?;
+    write(&[FOLDER, "/answers"].concat(), &answers)?;
+    let lines = answers.iter().filter(|&&byte| byte == 10).count();
+    eprintln!("{:>8} calls of a host, {} bytes, {} bytes of answers", lines, calls.len(), answers.len());
     Ok(())
 }

@@ -1,10 +1,11 @@
 //! A host's calls: random ones, and those that are stored.
 
 mod any;
+mod catalogue;
 mod rows;
 mod slices;
 
-use crate::host::Call;
+use crate::host::{put_call, Call, Name};
 use crate::random::Random;
 use crate::script::Tables;
 
@@ -41,4 +42,33 @@ impl Iterator for Calls {
         self.left -= 1;
         Some(any::call(&mut self.random, &self.tables))
     }
+}
+
+/// What the stored calls are made from.
+pub const STORED_SEED: u64 = 5;
+/// How many of them are random.
+const STORED_RANDOM: u64 = 3_000;
+
+/// The stored calls: a fixed part with comments, then random ones. The last line has its byte 10.
+pub fn stored_calls(seed: u64) -> Vec<u8> {
+    let mut writer = catalogue::Writer { lines: vec![], calls: 0 };
+    catalogue::all(&mut writer);
+    writer.heading("at random");
+    let mut calls = Calls::new(seed);
+    let mut line = vec![];
+    for number in 0..STORED_RANDOM {
+        // By turns of each name, every second one answered; a long line now and then.
+        let name = Name::ALL[number as usize % 7];
+        let longest = if number % 50 == 0 { 1_200 } else { 120 + 30 * name.lists() };
+        loop {
+            let mut call = calls.next().expect("calls do not end");
+            line.clear();
+            put_call(&mut line, &call);
+            if call.name == name && line.len() <= longest && (number % 2 == 0 || call.make() >= 0) {
+                break;
+            }
+        }
+        writer.lines.extend_from_slice(&line);
+    }
+    writer.lines
 }
