@@ -71,6 +71,11 @@ fn together(writer: &mut Writer) {
                 call.lists[j].push(0);
                 let why = format!("15 bytes of {}, 17 of {}", LISTS[i].0, LISTS[j].0);
                 writer.call(LISTS[i].1.max(LISTS[j].1), why, &call);
+                if i < j && LISTS[i].1 == LISTS[j].1 {
+                    call.lists[i].resize(17, 0);
+                    call.lists[j].resize(23, 0);
+                    writer.call(LISTS[i].1, format!("17 bytes of {}, 23 of {}", LISTS[i].0, LISTS[j].0), &call);
+                }
             }
         }
     }
