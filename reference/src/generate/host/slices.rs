@@ -38,7 +38,7 @@ pub fn disturb(random: &mut Random, call: &mut Call) {
     let len = call.lists[listed].len();
     let less = random.between(1, 7) as usize;
     match random.below(20) {
-        0 => call.n = random.pick(&[0, 11, 12, 1 << 61, u64::MAX, call.n + 1, call.n + 256]),
+        0 => call.n = random.pick(&[0, 11, 12, 1 << 61, u64::MAX, call.n.wrapping_add(1), call.n.wrapping_add(256)]),
         1 => call.n |= 1 << random.pick(&[8, 16, 31, 32, 60, 61, 62, 63]),
         2 => call.delimiter = random.pick(&[0, 6, 256, 257, u64::MAX, call.delimiter.wrapping_neg()]),
         3 => call.delimiter |= 1 << random.pick(&[8, 16, 31, 32, 63]),

@@ -61,20 +61,17 @@ fn longer(writer: &mut Writer) {
 /// Two lists that are in eights only together.
 fn together(writer: &mut Writer) {
     for (_, call) in &each() {
-        for i in 0..call.name.lists() {
-            for j in 0..call.name.lists() {
-                if i == j {
-                    continue;
-                }
+        let lists = LISTS.iter().enumerate().take(call.name.lists());
+        for (i, (one, refusal)) in lists.clone() {
+            for (j, (other, others)) in lists.clone().filter(|list| list.0 != i) {
                 let mut call = call.clone();
                 call.lists[i].pop();
                 call.lists[j].push(0);
-                let why = format!("15 bytes of {}, 17 of {}", LISTS[i].0, LISTS[j].0);
-                writer.call(LISTS[i].1.max(LISTS[j].1), why, &call);
-                if i < j && LISTS[i].1 == LISTS[j].1 {
+                writer.call(refusal.max(others), format!("15 bytes of {}, 17 of {}", one, other), &call);
+                if i < j && refusal == others {
                     call.lists[i].resize(17, 0);
                     call.lists[j].resize(23, 0);
-                    writer.call(LISTS[i].1, format!("17 bytes of {}, 23 of {}", LISTS[i].0, LISTS[j].0), &call);
+                    writer.call(refusal, format!("17 bytes of {}, 23 of {}", one, other), &call);
                 }
             }
         }
