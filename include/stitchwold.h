@@ -1,0 +1,120 @@
+/* stitchwold.h: spacecraft clock text (SPICE SCLK type 1) for host programs, C99 and C++. x86-64 Linux.
+ *
+ * A host keeps the bytes of its clock's tables and passes them with every call:
+ *   layout      n, the number of fields; delimiter, a code: 1 '.', 2 ':', 3 '-', 4 ',', 5 blank; moduli; offsets
+ *   partitions  starts; ends
+ *   segments    counts; times, in nanoseconds; rates, in picoseconds per first-field count
+ *
+ * A list is a row of eight-byte numbers, low byte first; times are two's complement. It is passed as a pointer and a
+ * length IN BYTES. Moduli and offsets have n numbers or more; those behind the n-th are not looked at.
+ *
+ * Pointers may have any alignment, and may be NULL where the length is 0. Lists, text and message may overlap each
+ * other; a buffer may overlap nothing else. Nothing is kept after the call. The calls have no state: any number of
+ * threads may make them at once. A call takes at most 4 KiB of stack.
+ *
+ * An answer is 0 or more. A refusal is the negative of its number below, and changes no buffer:
+ *
+ *   int64_t result = sclk_read_text(...);
+ *   if (result == -SCLK_LAYOUT) ...
+ *
+ * Where more than one refusal applies, the first of these is given: a message's 21, 22, 23; the tables that the call
+ * takes, 1, 2, 3; of a text 4, 5, 7, 6, then 9 or 8 of the fields from left to right, 9 of the sum, 10, 11; of a
+ * number 14 for its range, 12, 13, 9, 14 for the answer; the buffer's 16. A slice that is not in eights, or moduli or
+ * offsets of fewer than n numbers, are refused as the table that they belong to.
+ */
+#ifndef STITCHWOLD_H
+#define STITCHWOLD_H
+
+#include <stddef.h>
+#include <stdint.h>
+
+#define SCLK_MOST_FIELDS 10
+#define SCLK_MOST_PARTITIONS 9999
+#define SCLK_MOST_SEGMENTS 10000
+#define SCLK_LONGEST_TEXT 96        /* bytes that are read, a partition in front included */
+#define SCLK_LONGEST_PRINT 61       /* bytes of the longest print of a count; no 0 byte is written behind a print */
+#define SCLK_LONGEST_STAMP 66       /* bytes of the longest print of a stamp */
+#define SCLK_TIME_LENGTH 8          /* bytes of a time that is written */
+
+enum sclk_refusal {
+    SCLK_LAYOUT = 1,                /* the layout breaks its rules */
+    SCLK_PARTITIONS = 2,            /* the partitions break theirs */
+    SCLK_SEGMENTS = 3,              /* the segments break theirs */
+    SCLK_TEXT_TOO_LONG = 4,         /* over 96 bytes */
+    SCLK_BAD_BYTE = 5,              /* a byte that cannot stand where it is */
+    SCLK_FIRST_FIELD_MISSING = 6,
+    SCLK_TOO_MANY_FIELDS = 7,       /* more than n */
+    SCLK_FIELD_BELOW_OFFSET = 8,
+    SCLK_TOO_LARGE = 9,             /* a field, the sum of the fields, or a count to print */
+    SCLK_NO_SUCH_PARTITION = 10,    /* 0, or above the number there is */
+    SCLK_OUTSIDE_PARTITION = 11,    /* the count is outside the named partition, or in none */
+    SCLK_ABOVE_TOTAL = 12,          /* an encoded count above the sum of the partitions' lengths */
+    SCLK_BEFORE_SEGMENTS = 13,      /* a count or a time before the first segment */
+    SCLK_TIME_OUT_OF_RANGE = 14,    /* a time beyond +-4*10^18, or its count above the total */
+    SCLK_BUFFER_TOO_SHORT = 16,     /* for the print, or for a time's 8 bytes */
+    SCLK_MESSAGE_TOO_SHORT = 21,    /* under 2 bytes */
+    SCLK_MESSAGE_WITHOUT_TEXT = 22, /* its trailer says 0 */
+    SCLK_MESSAGE_TRAILER = 23       /* its trailer says more than 96, or than there are bytes before it */
+};
+
+#ifdef __cplusplus
+extern "C" {
+#endif
+
+/* The count of a clock text without partition, such as "12.3". */
+int64_t sclk_read_text(
+    uint64_t n, uint64_t delimiter,
+    const uint8_t *moduli, size_t moduli_length, const uint8_t *offsets, size_t offsets_length,
+    const uint8_t *text, size_t text_length);
+
+/* The encoded count of a stamp, with or without a partition in front, such as "1/12.3". */
+int64_t sclk_read_stamp(
+    uint64_t n, uint64_t delimiter,
+    const uint8_t *moduli, size_t moduli_length, const uint8_t *offsets, size_t offsets_length,
+    const uint8_t *starts, size_t starts_length, const uint8_t *ends, size_t ends_length,
+    const uint8_t *text, size_t text_length);
+
+/* The encoded count of the stamp in a message: payload, stamp, and the stamp's length in two bytes, high byte first. */
+int64_t sclk_read_message(
+    uint64_t n, uint64_t delimiter,
+    const uint8_t *moduli, size_t moduli_length, const uint8_t *offsets, size_t offsets_length,
+    const uint8_t *starts, size_t starts_length, const uint8_t *ends, size_t ends_length,
+    const uint8_t *message, size_t message_length);
+
+/* Writes a count as clock text to the front of the buffer. The answer is its length; the bytes behind it stay. */
+int64_t sclk_print_count(
+    uint64_t n, uint64_t delimiter,
+    const uint8_t *moduli, size_t moduli_length, const uint8_t *offsets, size_t offsets_length,
+    uint64_t count, uint8_t *buffer, size_t buffer_length);
+
+/* Writes an encoded count as a stamp to the front of the buffer. The answer is its length; the bytes behind it stay. */
+int64_t sclk_print_stamp(
+    uint64_t n, uint64_t delimiter,
+    const uint8_t *moduli, size_t moduli_length, const uint8_t *offsets, size_t offsets_length,
+    const uint8_t *starts, size_t starts_length, const uint8_t *ends, size_t ends_length,
+    uint64_t count, uint8_t *buffer, size_t buffer_length);
+
+/* Writes the time of an encoded count to the first 8 bytes of time: nanoseconds, low byte first, two's complement.
+   The answer is 0; the bytes behind the 8 stay. */
+int64_t sclk_time_of(
+    uint64_t n, uint64_t delimiter,
+    const uint8_t *moduli, size_t moduli_length, const uint8_t *offsets, size_t offsets_length,
+    const uint8_t *starts, size_t starts_length, const uint8_t *ends, size_t ends_length,
+    const uint8_t *counts, size_t counts_length, const uint8_t *times, size_t times_length,
+    const uint8_t *rates, size_t rates_length,
+    uint64_t count, uint8_t *time, size_t time_length);
+
+/* The encoded count at a time in nanoseconds. */
+int64_t sclk_count_at(
+    uint64_t n, uint64_t delimiter,
+    const uint8_t *moduli, size_t moduli_length, const uint8_t *offsets, size_t offsets_length,
+    const uint8_t *starts, size_t starts_length, const uint8_t *ends, size_t ends_length,
+    const uint8_t *counts, size_t counts_length, const uint8_t *times, size_t times_length,
+    const uint8_t *rates, size_t rates_length,
+    int64_t time);
+
+#ifdef __cplusplus
+}
+#endif
+
+#endif
