@@ -1,4 +1,6 @@
 /* stitchwold.h: spacecraft clock text (SPICE SCLK type 1) for host programs, C99 and C++. x86-64 Linux.
+ * docs/RULES.md has the rules. A count is a number of ticks on the clock's face, an encoded count one that runs through
+ * all partitions.
  *
  * A host keeps the bytes of its clock's tables and passes them with every call:
  *   layout      n, the number of fields; delimiter, a code: 1 '.', 2 ':', 3 '-', 4 ',', 5 blank; moduli; offsets
@@ -6,7 +8,7 @@
  *   segments    counts; times, in nanoseconds; rates, in picoseconds per first-field count
  *
  * A list is a row of eight-byte numbers, low byte first; times are two's complement. It is passed as a pointer and a
- * length IN BYTES. Moduli and offsets have n numbers or more; those behind the n-th are not looked at.
+ * length IN BYTES. Moduli and offsets have n numbers or more; those behind the n-th may be anything.
  *
  * Pointers may have any alignment, and may be NULL where the length is 0. Lists, text and message may overlap each
  * other; a buffer may overlap nothing else. Nothing is kept after the call. The calls have no state: any number of

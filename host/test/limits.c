@@ -1,5 +1,5 @@
 /* What is refused for its length is refused unread: every such slice here is memory that nobody may touch.
- * Likewise what an answer does not need: a message's payload, numbers behind the n-th, a buffer's rest.
+ * Likewise what an answer does not need: a message's payload, moduli behind the tenth, a buffer's rest.
  * Ends with 1 at the first call that touches it or answers differently.
  */
 #define _GNU_SOURCE
@@ -221,14 +221,18 @@ static void layouts(void)
     a.text = a.buffer = unreadable(GIGABYTES / 2);
     expect_all(0, &a, -SCLK_LAYOUT);
 
-    now = "moduli or offsets behind the n-th";
-    for (int i = 0; i < 3; i++) {
-        const size_t lengths[] = {24, 88, GIGABYTES / 2};
+    now = "moduli or offsets behind the tenth";
+    for (int i = 0; i < 2; i++) {
+        const size_t lengths[] = {88, GIGABYTES / 2};
+        uint8_t ten[80];
         struct arguments b = good(), c = good();
-        b.moduli = at_end(b.moduli.bytes, 16, lengths[i]);
+        memset(ten, 255, sizeof ten); /* those behind the n-th may hold anything */
+        memcpy(ten, b.moduli.bytes, 16);
+        b.moduli = at_end(ten, sizeof ten, lengths[i]);
         expect(read_text, &b, 53);
         expect(count_at, &b, 1);
-        c.offsets = at_end(c.offsets.bytes, 16, lengths[i]);
+        memcpy(ten, c.offsets.bytes, 16);
+        c.offsets = at_end(ten, sizeof ten, lengths[i]);
         expect(read_text, &c, 53);
         expect(count_at, &c, 1);
     }
