@@ -2,6 +2,8 @@
 //!
 //! A program keeps one `Tables` for each clock. It holds the lists as the calls take them; any number of threads may share it.
 
+#![allow(dead_code)] // a program need not make every call
+
 use std::fmt;
 
 /// A refusal by its number: `sclk_refusal` in the header.
