@@ -205,6 +205,7 @@ int main(int count, char **words)
         fprintf(stderr, "usage: calls [--plain] <CALLS >ANSWERS\n");
         return 2;
     }
+    setvbuf(stdout, NULL, _IOLBF, 1 << 16); /* who asks line by line gets each answer at once */
     if (!plain) {
         map_memory();
         map_stack();
