@@ -1,11 +1,17 @@
 -- Eight bytes of a list as one number.
-use Prim.Native.Nat.{ℕ, suc, _+_, _*_, _≤_, _<_}
-use mathlib.Core.Path.{_≡_, sym, ap, _∙_}
-use mathlib.Core.List.{List}
+use Prim.Native.Nat.{ℕ, zero, suc, _+_, _*_, _≤_, _<_}
+use mathlib.Core.Path.{_≡_, refl, sym, ap, _∙_}
+use mathlib.Core.List.{List, [], _∷_}
 use native.Mathlib.Omega.{arith}
-use lib.ListN.{List·getD-eq-default, length, getD, take, drop}
+use lib.ListN.{List·getD-eq-default, length, length-take, getD, take, drop}
 use lib.Seq.{drop-cons}
 use Rattle.c_rules.specs.Numbers.{little, numbers}
+
+getD-take : (n : ℕ) (xs : List ℕ) (i : ℕ) → i < n → getD (take n xs) i 0 ≡ getD xs i 0
+getD-take zero xs i h = absurd (omega arith)
+getD-take (suc n) [] i h = refl
+getD-take (suc n) (x ∷ xs) zero h = refl
+getD-take (suc n) (x ∷ xs) (suc i) h = getD-take n xs i (omega arith)
 
 little-next : (n k j : ℕ) (s : List ℕ) → suc k ≡ j → k < length s → little (take (suc n) (drop k s)) ≡ getD s k 0 + 256 * little (take n (drop j s))
 unfolding little
@@ -29,5 +35,9 @@ eight s k h = sym (
 pub joined-is : (s : List ℕ) (i : ℕ) → 8 * i + 8 ≤ length s → (r : ℕ) → r ≡ getD s (8 * i) 0 + 256 * (getD s (8 * i + 1) 0 + 256 * (getD s (8 * i + 2) 0 + 256 * (getD s (8 * i + 3) 0 + 256 * (getD s (8 * i + 4) 0 + 256 * (getD s (8 * i + 5) 0 + 256 * (getD s (8 * i + 6) 0 + 256 * getD s (8 * i + 7) 0)))))) → r ≡ little (take 8 (drop (8 * i) s))
 joined-is s i h r e = e ∙ eight s (8 * i) h
 
-pub empty-slot : (s : List ℕ) (i n : ℕ) → n ≡ length (numbers s) → n ≤ i → 0 ≡ getD (numbers s) i 0
-empty-slot s i n e h = sym (List·getD-eq-default (numbers s) 0 (omega arith))
+-- a slot of the first n
+pub full-slot : (s : List ℕ) (n i : ℕ) → i < n → (r : ℕ) → r ≡ getD (numbers s) i 0 → r ≡ getD (take n (numbers s)) i 0
+full-slot s n i h r e = e ∙ sym (getD-take n (numbers s) i h)
+
+pub empty-slot : (s : List ℕ) (n i : ℕ) → n ≤ i → 0 ≡ getD (take n (numbers s)) i 0
+empty-slot s n i h = sym (List·getD-eq-default (take n (numbers s)) 0 (omega (arith, length-take n (numbers s))))

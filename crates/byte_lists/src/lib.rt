@@ -30,11 +30,12 @@ pub fn time_at(s: &[u8], i: usize) -> i64
     signed(number_at(s, i))
 }
 
-// The number in a slot, and 0 behind the last.
-pub fn slot(s: &[u8], i: usize) -> u64
-    ensures { λ r. ⌜ r ≡ getD (numbers (now (s .entry))) i 0 ⌝ }
+// The number in a slot of the first `n`, and 0 behind them.
+pub fn slot(s: &[u8], n: usize, i: usize) -> u64
+    requires { ⌜ n ≤ length (numbers (now s)) ⌝ }
+    ensures { λ r. ⌜ r ≡ getD (take n (numbers (now (s .entry)))) i 0 ⌝ }
 {
-    if i < rows(s) {
+    if i < n {
         return number_at(s, i);
     }
     0

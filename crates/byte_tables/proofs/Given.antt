@@ -2,6 +2,8 @@
 use Prim.Native.Nat.{ℕ, zero, suc, _+_, _≤_, _<_}
 use mathlib.Core.Path.{_≡_, refl, sym, ap, _∙_}
 use mathlib.Core.List.{List, [], _∷_}
+use mathlib.Core.Bool.{_&&_}
+use lib.Dec.{leb}
 use lib.IntN.{ℤ, pos}
 use lib.ListN.{length, getD, drop}
 use lib.Seq.{drop-drop}
@@ -9,7 +11,8 @@ use mir.Syntax.{w64}
 use mir.Val.{SFits, toZ, ofZ}
 use mir.Facts.{toZ-ofZ}
 use native.Mathlib.Omega.{arith}
-use borrow.Author.Tests.{le-leb, lt-leb}
+use borrow.Author.Tests.{le-leb, lt-leb, leb-true}
+use Rattle.base.proofs.Tests.{by-test, and-first, and-second}
 use Rattle.rules.specs.Limits.{mostFields, lastDelimiter}
 use Rattle.rules.specs.declared.Segment.{Segment}
 use Rattle.rules.specs.Segments.{rowOf}
@@ -45,6 +48,24 @@ module _ (n : ℕ) (moduli offsets : List ℕ) (a : ℕ) (ae : a ≡ length (num
     pub all-fields : n ≤ b → n ≡ fieldsGiven n moduli offsets
     unfolding fieldsGiven
     all-fields h = rw (← many-moduli, ← many-offsets, le-leb n a enough, le-leb n b h)
+
+-- no more fields than a list has numbers
+module _ (n : ℕ) (moduli offsets : List ℕ) (k : ℕ) (ke : k ≡ fieldsGiven n moduli offsets) where
+  pub moduli-enough : k ≤ length (numbers moduli)
+  unfolding fieldsGiven
+  moduli-enough =
+      rw (ke, length-numbers moduli)
+      (by-test (leb n (numbersIn moduli) && leb n (numbersIn offsets))
+      (λ t. rw t (leb-true n (numbersIn moduli) (and-first _ _ t)))
+      (λ f. rw f (omega arith)))
+
+  pub offsets-enough : k ≤ length (numbers offsets)
+  unfolding fieldsGiven
+  offsets-enough =
+      rw (ke, length-numbers offsets)
+      (by-test (leb n (numbersIn moduli) && leb n (numbersIn offsets))
+      (λ t. rw t (leb-true n (numbersIn offsets) (and-second (leb n (numbersIn moduli)) _ t)))
+      (λ f. rw f (omega arith)))
 
 -- k slots from slot i on
 unfoldable slotsFrom : ℕ → ℕ → List ℕ → List ℕ

@@ -1,5 +1,7 @@
-// The layout that numbers and two lists in bytes make. Only its n fields are looked at afterwards, at most ten.
+// The layout that numbers and two lists in bytes make: n fields, of each list its first n numbers.
 ghost use mathlib.Core.Path.{_≡_};
+ghost use Prim.Native.Nat.{_≤_};
+ghost use lib.ListN.{length, take};
 ghost use Rattle.rules.specs.Limits.{mostFields};
 ghost use Rattle.c_rules.specs.Numbers.{numbers};
 ghost use Rattle.c_rules.specs.Tables.{slots, fieldsGiven, codeGiven, layoutFrom};
@@ -11,10 +13,11 @@ use rules::Layout;
 pub fn layout_of(n: u64, delimiter: u64, moduli: &[u8], offsets: &[u8]) -> Layout
     ensures { λ r. ⌜ r ≡ layoutFrom n delimiter (now (moduli .entry)) (now (offsets .entry)) ⌝ }
 {
+    let fields = fields_given(n, moduli, offsets);
     Layout {
-        n: fields_given(n, moduli, offsets),
-        moduli: slots_of(moduli),
-        offsets: slots_of(offsets),
+        n: fields,
+        moduli: slots_of(moduli, fields),
+        offsets: slots_of(offsets, fields),
         delimiter: code_given(delimiter),
     }
 }
@@ -32,21 +35,22 @@ fn fields_given(n: u64, moduli: &[u8], offsets: &[u8]) -> usize
     n as usize
 }
 
-// A list's first ten numbers, 0 behind its last.
-fn slots_of(s: &[u8]) -> [u64; Layout::MOST_FIELDS]
-    ensures { λ r. ⌜ r ≡ slots mostFields (numbers (now (s .entry))) ⌝ }
+// A list's first `n` numbers, at most ten, and 0 behind them.
+fn slots_of(s: &[u8], n: usize) -> [u64; Layout::MOST_FIELDS]
+    requires { ⌜ n ≤ length (numbers (now s)) ⌝ }
+    ensures { λ r. ⌜ r ≡ slots mostFields (take n (numbers (now (s .entry)))) ⌝ }
 {
     [
-        slot(s, 0),
-        slot(s, 1),
-        slot(s, 2),
-        slot(s, 3),
-        slot(s, 4),
-        slot(s, 5),
-        slot(s, 6),
-        slot(s, 7),
-        slot(s, 8),
-        slot(s, 9),
+        slot(s, n, 0),
+        slot(s, n, 1),
+        slot(s, n, 2),
+        slot(s, n, 3),
+        slot(s, n, 4),
+        slot(s, n, 5),
+        slot(s, n, 6),
+        slot(s, n, 7),
+        slot(s, n, 8),
+        slot(s, n, 9),
     ]
 }
 

@@ -5,7 +5,7 @@ use mathlib.Core.Bool.{Bool, true, false, true≢false}
 use mathlib.Core.List.{List, [], _∷_}
 use lib.Dec.{leb, eqb}
 use lib.IntN.{ℤ, pos, negℤ}
-use lib.ListN.{length}
+use lib.ListN.{length, take}
 use native.Mathlib.Omega.{arith}
 use borrow.Author.Tests.{leb-true, ltb-true, eqb-true}
 use Rattle.base.specs.Scans.{all, among}
@@ -24,7 +24,7 @@ use Rattle.roundtrip.specs.RoundTrip.{TenSlots, longestCountPrint, longestStamp
 use Rattle.roundtrip.proofs.Counts.{count-prints-short}
 use Rattle.roundtrip.proofs.Stamps.{stamp-prints-short}
 use Rattle.c_rules.specs.Numbers.{numbers, timeBytes}
-use Rattle.c_rules.specs.Tables.{slots, layoutFrom}
+use Rattle.c_rules.specs.Tables.{slots, fieldsGiven, layoutFrom}
 use Rattle.c_rules.specs.Calls.{returned, countRead, countGiven, timeWritten, zeroGiven}
 use Rattle.c_outcomes.specs.Results.{Gives, Results, Returnable, isNegative, isRefused, NegativeIsRefused}
 use Rattle.c_outcomes.proofs.Answers.{text-small, stamp-small, message-small, count-small}
@@ -48,7 +48,7 @@ length-slots (suc k) (x ∷ xs) = ap suc (length-slots k xs)
 
 module _ (n d : ℕ) (moduli offsets : List ℕ) where
   ten : TenSlots (layoutFrom n d moduli offsets)
-  ten = record { moduli = length-slots mostFields (numbers moduli); offsets = length-slots mostFields (numbers offsets) }
+  ten = record { moduli = length-slots mostFields (take (fieldsGiven n moduli offsets) (numbers moduli)); offsets = length-slots mostFields (take (fieldsGiven n moduli offsets) (numbers offsets)) }
 
   count-length : (c room : ℕ) (s : List ℕ) → printCount (layoutFrom n d moduli offsets) c room ≡ answer s → length s ≤ longestCountPrint
   unfolding printCount fitting

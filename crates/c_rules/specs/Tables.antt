@@ -3,6 +3,7 @@ use Prim.Native.Nat.{ℕ, zero, suc}
 use mathlib.Core.Bool.{_&&_, cond}
 use mathlib.Core.List.{List, [], _∷_}
 use lib.Dec.{leb}
+use lib.ListN.{take}
 use Rattle.rules.specs.Limits.{mostFields, lastDelimiter}
 use Rattle.rules.specs.declared.Layout.{Layout}
 use Rattle.rules.specs.Partitions.{Partitions, partitions}
@@ -23,12 +24,13 @@ fieldsGiven n moduli offsets = cond (leb n (numbersIn moduli) && leb n (numbersI
 unfoldable pub codeGiven : ℕ → ℕ
 codeGiven d = cond (leb d lastDelimiter) d 0
 
+-- the layout of the first n numbers of each list; "Slots after the n-th are not looked at."
 abbrev pub layoutFrom : ℕ → ℕ → List ℕ → List ℕ → Layout
 layoutFrom n d moduli offsets =
     record {
       n = fieldsGiven n moduli offsets;
-      moduli = slots mostFields (numbers moduli);
-      offsets = slots mostFields (numbers offsets);
+      moduli = slots mostFields (take (fieldsGiven n moduli offsets) (numbers moduli));
+      offsets = slots mostFields (take (fieldsGiven n moduli offsets) (numbers offsets));
       delimiter = codeGiven d;
     }
 

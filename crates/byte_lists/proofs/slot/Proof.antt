@@ -1,5 +1,5 @@
 use borrow.Author.Needs.{needs}
-use Rattle.byte_lists.proofs.Eight.{empty-slot}
+use Rattle.byte_lists.proofs.Eight.{full-slot, empty-slot}
 use Rattle.byte_lists.proofs.slot.Statement.{statement}
 use Rattle.byte_lists.proofs.slot.Tie as tie
 
@@ -8,6 +8,5 @@ slot-spec =
     tie.close
     (tie.spec
     (λ c κs. search needs)
-    (λ c κs. search needs)
-    (λ c. search needs)
+    (λ c. search (full-slot, needs))
     (λ c. search (empty-slot, needs)))
