@@ -34,7 +34,8 @@ pub extern "C" fn sclk_read_text(
 ) -> i64
     ensures { λ r. ⌜ r ≡ returned (countRead (readText (layoutFrom n delimiter (now (moduli .entry)) (now (offsets .entry))) (now (text .entry)))) ⌝ }
 {
-    count_read(read_text(layout_of(n, delimiter, moduli, offsets), text))
+    let layout = layout_of(n, delimiter, moduli, offsets);
+    count_read(read_text(layout, text))
 }
 
 #[no_mangle]
@@ -49,7 +50,8 @@ pub extern "C" fn sclk_read_stamp(
 ) -> i64
     ensures { λ r. ⌜ r ≡ returned (countRead (readStamp (layoutFrom n delimiter (now (moduli .entry)) (now (offsets .entry))) (partitionsFrom (now (starts .entry)) (now (ends .entry))) (now (text .entry)))) ⌝ }
 {
-    count_read(read_stamp(layout_of(n, delimiter, moduli, offsets), starts, ends, text))
+    let layout = layout_of(n, delimiter, moduli, offsets);
+    count_read(read_stamp(layout, starts, ends, text))
 }
 
 #[no_mangle]
@@ -64,12 +66,8 @@ pub extern "C" fn sclk_read_message(
 ) -> i64
     ensures { λ r. ⌜ r ≡ returned (countRead (readMessage (layoutFrom n delimiter (now (moduli .entry)) (now (offsets .entry))) (partitionsFrom (now (starts .entry)) (now (ends .entry))) (now (message .entry)))) ⌝ }
 {
-    count_read(read_message(
-        layout_of(n, delimiter, moduli, offsets),
-        starts,
-        ends,
-        message,
-    ))
+    let layout = layout_of(n, delimiter, moduli, offsets);
+    count_read(read_message(layout, starts, ends, message))
 }
 
 #[no_mangle]
@@ -84,7 +82,8 @@ pub extern "C" fn sclk_print_count(
     ensures { λ r. ⌜ r ≡ returned (lengthPrinted (printCount (layoutFrom n delimiter (now (moduli .entry)) (now (offsets .entry))) count (length (now (buffer .entry))))) ⌝ }
     ensures { λ r. ⌜ now (buffer .exit) ≡ bufferAfter (printCount (layoutFrom n delimiter (now (moduli .entry)) (now (offsets .entry))) count (length (now (buffer .entry)))) (now (buffer .entry)) ⌝ }
 {
-    length_given(print_count(layout_of(n, delimiter, moduli, offsets), count, buffer))
+    let layout = layout_of(n, delimiter, moduli, offsets);
+    length_given(print_count(layout, count, buffer))
 }
 
 #[no_mangle]
@@ -123,10 +122,8 @@ pub extern "C" fn sclk_time_of(
     ensures { λ r. ⌜ now (time .exit) ≡ bufferAfter (timeWritten (timeOf (layoutFrom n delimiter (now (moduli .entry)) (now (offsets .entry))) (partitionsFrom (now (starts .entry)) (now (ends .entry))) (segmentsFrom (now (counts .entry)) (now (times .entry)) (now (rates .entry))) count) (length (now (time .entry)))) (now (time .entry)) ⌝ }
 {
     let layout = layout_of(n, delimiter, moduli, offsets);
-    time_given(
-        time_of(layout, starts, ends, counts, times, rates, count),
-        time,
-    )
+    let answer = time_of(layout, starts, ends, counts, times, rates, count);
+    time_given(answer, time)
 }
 
 #[no_mangle]
