@@ -15,6 +15,7 @@ use byte_lists::rows;
 use decode::Decoded;
 use encode::Encoded;
 use encode::is_within;
+use wide::less;
 
 // In the first partition that holds the count.
 pub fn encode_first(starts: &[u8], ends: &[u8], count: u64) -> Encoded
@@ -67,9 +68,8 @@ fn lengths_before(starts: &[u8], ends: &[u8], row: usize) -> u64
     let mut before: u64 = 0;
     let mut i = 0;
     while i < row {
-        let start = number_at(starts, i);
-        let end = number_at(ends, i);
-        before += end - start;
+        // Compared before it is subtracted, a start is read as one word.
+        before += less(number_at(ends, i), number_at(starts, i));
         i += 1;
     }
     before

@@ -1,29 +1,33 @@
 -- The layout that numbers and two lists in bytes make, and a row of segments that lie in bytes.
-use Prim.Native.Nat.{ℕ, zero, suc, _+_, _≤_, _<_}
-use mathlib.Core.Path.{_≡_, refl, sym, ap, _∙_}
+use Prim.Native.Nat.{ℕ, zero, suc, _+_, _≤_, _<_, min}
+use mathlib.Core.Path.{_≡_, refl, sym, _∙_}
 use mathlib.Core.List.{List, [], _∷_}
-use mathlib.Core.Bool.{_&&_}
+use mathlib.Core.Bool.{Bool, true, false, not}
 use lib.Dec.{leb}
 use lib.IntN.{ℤ, pos}
-use lib.ListN.{length, getD, drop}
+use lib.ListN.{length, getD, take, drop}
 use lib.Seq.{drop-drop}
 use mir.Syntax.{w64}
 use mir.Val.{SFits, toZ, ofZ}
 use mir.Facts.{toZ-ofZ}
 use native.Mathlib.Omega.{arith}
-use borrow.Author.Tests.{le-leb, lt-leb, leb-true}
-use Rattle.base.proofs.Tests.{by-test, and-first, and-second}
-use Rattle.rules.specs.Limits.{mostFields, lastDelimiter}
-use Rattle.rules.specs.declared.Segment.{Segment}
+use borrow.Author.Tests.{le-leb}
+use Rattle.base.specs.Scans.{all, product}
+use Rattle.rules.specs.Limits.{mostFields, lastDelimiter, largestOffset, largestMSF}
+use Rattle.rules.specs.Answer.{Answer, refuse}
+use Rattle.layouts.specs.declared.Measured.{Measured}
+use Rattle.layouts.specs.Measure.{measureOf, headOk, measuredBy}
+use Rattle.layouts.proofs.Slots.{product-of-slots}
+use Rattle.layouts.proofs.Measuring.{some-fields, few-fields, bad-head, large-offset, moduli-measured}
 use Rattle.rules.specs.Segments.{rowOf}
 use Rattle.segments.specs.Rows.{RowIn}
 use Rattle.c_rules.specs.Numbers.{numbersIn, numbers, times}
-use Rattle.c_rules.specs.Tables.{slots, fieldsGiven, codeGiven, segmentsFrom}
+use Rattle.c_rules.specs.Tables.{slots, fieldsGiven, codeGiven, layoutFrom, segmentsFrom}
 use Rattle.c_rules.proofs.Bytes.{length-numbers}
+use Rattle.c_rules.proofs.Slots.{moduli-enough, offsets-enough, under-moduli, under-offsets, moduli-are, offsets-are, no-code}
 
-pub no-code : (d : ℕ) → lastDelimiter < d → 0 ≡ codeGiven d
-unfolding codeGiven
-no-code d h = rw (lt-leb d lastDelimiter h)
+pub above-codes : (d : ℕ) → lastDelimiter < d → 0 ≡ codeGiven d
+above-codes d h = sym (no-code d h)
 
 pub a-code : (d : ℕ) → d ≤ lastDelimiter → d ≡ codeGiven d
 unfolding codeGiven
@@ -34,16 +38,14 @@ module _ (n : ℕ) (moduli offsets : List ℕ) (a : ℕ) (ae : a ≡ length (num
   many-moduli = ae ∙ length-numbers moduli
 
   pub few-moduli : a < n → 0 ≡ fieldsGiven n moduli offsets
-  unfolding fieldsGiven
-  few-moduli h = rw (← many-moduli, lt-leb n a h)
+  few-moduli h = sym (under-moduli n moduli offsets (rw many-moduli at h))
 
   module _ (enough : n ≤ a) (b : ℕ) (be : b ≡ length (numbers offsets)) where
     many-offsets : b ≡ numbersIn offsets
     many-offsets = be ∙ length-numbers offsets
 
     pub few-offsets : b < n → 0 ≡ fieldsGiven n moduli offsets
-    unfolding fieldsGiven
-    few-offsets h = rw (← many-moduli, ← many-offsets, le-leb n a enough, lt-leb n b h)
+    few-offsets h = sym (under-offsets n moduli offsets (rw many-offsets at h))
 
     pub all-fields : n ≤ b → n ≡ fieldsGiven n moduli offsets
     unfolding fieldsGiven
@@ -51,21 +53,40 @@ module _ (n : ℕ) (moduli offsets : List ℕ) (a : ℕ) (ae : a ≡ length (num
 
 -- no more fields than a list has numbers
 module _ (n : ℕ) (moduli offsets : List ℕ) (k : ℕ) (ke : k ≡ fieldsGiven n moduli offsets) where
-  pub moduli-enough : k ≤ length (numbers moduli)
-  unfolding fieldsGiven
-  moduli-enough =
-      rw (ke, length-numbers moduli)
-      (by-test (leb n (numbersIn moduli) && leb n (numbersIn offsets))
-      (λ t. rw t (leb-true n (numbersIn moduli) (and-first _ _ t)))
-      (λ f. rw f (omega arith)))
+  pub moduli-there : k ≤ length (numbers moduli)
+  moduli-there = omega (arith, moduli-enough n moduli offsets, length-numbers moduli)
 
-  pub offsets-enough : k ≤ length (numbers offsets)
-  unfolding fieldsGiven
-  offsets-enough =
-      rw (ke, length-numbers offsets)
-      (by-test (leb n (numbersIn moduli) && leb n (numbersIn offsets))
-      (λ t. rw t (leb-true n (numbersIn offsets) (and-second (leb n (numbersIn moduli)) _ t)))
-      (λ f. rw f (omega arith)))
+  pub offsets-there : k ≤ length (numbers offsets)
+  offsets-there = omega (arith, offsets-enough n moduli offsets, length-numbers offsets)
+
+  -- the ways out of `measure_of`
+  module _ (d code : ℕ) (ce : code ≡ codeGiven d) {b : Bool} (head : b ≡ headOk k code) where
+    head-is : b ≡ headOk (fieldsGiven n moduli offsets) (codeGiven d)
+    head-is = rw (← ke, ← ce) head
+
+    pub head-out : not b ≡ true → refuse 1 ≡ measureOf (layoutFrom n d moduli offsets)
+    head-out h = bad-head (layoutFrom n d moduli offsets) head-is h
+
+    module _ (h : not b ≡ false) where
+      few : fieldsGiven n moduli offsets ≤ mostFields
+      few = few-fields (fieldsGiven n moduli offsets) (codeGiven d) head-is h
+
+      pub first-there : 0 < length (numbers moduli)
+      first-there = omega (arith, moduli-there, some-fields k code head h)
+
+      module _ {c : Bool} (offsets-test : c ≡ all (λ o. leb o largestOffset) (take k (numbers offsets))) where
+        offsets-is : c ≡ all (λ o. leb o largestOffset) (take (fieldsGiven n moduli offsets) (numbers offsets))
+        offsets-is = rw (← ke) offsets-test
+
+        pub offsets-out : not c ≡ true → refuse 1 ≡ measureOf (layoutFrom n d moduli offsets)
+        offsets-out g = large-offset (layoutFrom n d moduli offsets) (take (fieldsGiven n moduli offsets) (numbers offsets)) (offsets-are n moduli offsets d few) offsets-is g
+
+        pub measured-is : not c ≡ false → (first m : ℕ) → first ≡ getD (numbers moduli) 0 0 → m ≡ min (product (drop 1 (take k (numbers moduli)))) (largestMSF + 1) → (a : Answer Measured) → a ≡ measuredBy first m → a ≡ measureOf (layoutFrom n d moduli offsets)
+        measured-is g first m fe me a q =
+            moduli-measured (layoutFrom n d moduli offsets) (take (fieldsGiven n moduli offsets) (numbers moduli)) (take (fieldsGiven n moduli offsets) (numbers offsets))
+            (moduli-are n moduli offsets d few) (offsets-are n moduli offsets d few) head-is h offsets-is g first m
+            (rw (fe, ← ke) (product-of-slots (numbers moduli) k (some-fields k code head h) moduli-there))
+            (rw (← ke) me) a q
 
 -- k slots from slot i on
 unfoldable slotsFrom : ℕ → ℕ → List ℕ → List ℕ

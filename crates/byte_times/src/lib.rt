@@ -1,4 +1,4 @@
-// Count to time and time to count under tables that lie in bytes. A row's line is told by the functions that lists of numbers
+// Count to time and time to count under tables that lie in bytes. The layout is measured and not made; a row's line is told by the functions that lists of numbers
 // use; only the loops that fetch a row are here.
 ghost use mathlib.Core.Path.{_≡_};
 ghost use Rattle.rules.specs.Answer.{timeAnswer, countAnswer};
@@ -9,25 +9,27 @@ ghost use Rattle.segment_search.specs.Found.{found};
 ghost use Rattle.conversion.specs.LastCount.{HasCount, lastCount};
 ghost use Rattle.c_rules.specs.Numbers.{numbers};
 ghost use Rattle.c_rules.specs.Numbers.{times as timesIn};
-ghost use Rattle.c_rules.specs.Tables.{partitionsFrom, segmentsFrom};
+ghost use Rattle.c_rules.specs.Tables.{layoutFrom, partitionsFrom, segmentsFrom};
 use byte_lists::number_at;
 use byte_lists::rows;
 use byte_lists::time_at;
 use byte_tables::accept;
+use byte_tables::layout::measure_of;
 use byte_tables::row_at;
 use conversion::count_of_row;
 use conversion::in_range;
 use conversion::time_of_row;
-use layouts::measure;
 use rules::CountAnswer;
-use rules::Layout;
 use rules::TimeAnswer;
 use segment_search::Found;
 use tables::Acceptance;
 
 // The time of an encoded count.
 pub fn time_of(
-    layout: Layout,
+    n: u64,
+    delimiter: u64,
+    moduli: &[u8],
+    offsets: &[u8],
     starts: &[u8],
     ends: &[u8],
     counts: &[u8],
@@ -35,9 +37,10 @@ pub fn time_of(
     rates: &[u8],
     encoded: u64,
 ) -> TimeAnswer
-    ensures { λ r. ⌜ timeAnswer r ≡ timeOf layout (partitionsFrom (now (starts .entry)) (now (ends .entry))) (segmentsFrom (now (counts .entry)) (now (times .entry)) (now (rates .entry))) encoded ⌝ }
+    ensures { λ r. ⌜ timeAnswer r ≡ timeOf (layoutFrom n delimiter (now (moduli .entry)) (now (offsets .entry))) (partitionsFrom (now (starts .entry)) (now (ends .entry))) (segmentsFrom (now (counts .entry)) (now (times .entry)) (now (rates .entry))) encoded ⌝ }
 {
-    match accept(measure(layout), starts, ends, counts, times, rates) {
+    let measured = measure_of(n, delimiter, moduli, offsets);
+    match accept(measured, starts, ends, counts, times, rates) {
         Acceptance::Accepted(b) => time_within(b.unit, b.total, counts, times, rates, encoded),
         Acceptance::Refused(k) => TimeAnswer::Refused(k),
     }
@@ -45,7 +48,10 @@ pub fn time_of(
 
 // The count at a time.
 pub fn count_at(
-    layout: Layout,
+    n: u64,
+    delimiter: u64,
+    moduli: &[u8],
+    offsets: &[u8],
     starts: &[u8],
     ends: &[u8],
     counts: &[u8],
@@ -53,9 +59,10 @@ pub fn count_at(
     rates: &[u8],
     time: i64,
 ) -> CountAnswer
-    ensures { λ r. ⌜ countAnswer r ≡ countAt layout (partitionsFrom (now (starts .entry)) (now (ends .entry))) (segmentsFrom (now (counts .entry)) (now (times .entry)) (now (rates .entry))) time ⌝ }
+    ensures { λ r. ⌜ countAnswer r ≡ countAt (layoutFrom n delimiter (now (moduli .entry)) (now (offsets .entry))) (partitionsFrom (now (starts .entry)) (now (ends .entry))) (segmentsFrom (now (counts .entry)) (now (times .entry)) (now (rates .entry))) time ⌝ }
 {
-    match accept(measure(layout), starts, ends, counts, times, rates) {
+    let measured = measure_of(n, delimiter, moduli, offsets);
+    match accept(measured, starts, ends, counts, times, rates) {
         Acceptance::Accepted(b) => count_within(b.unit, b.total, counts, times, rates, time),
         Acceptance::Refused(k) => CountAnswer::Refused(k),
     }

@@ -6,16 +6,16 @@ use mathlib.Core.List.{List}
 use lib.Dec.{leb, eqb}
 use lib.ListN.{length}
 use native.Mathlib.Omega.{arith}
-use borrow.Author.Tests.{lt-leb, leb-true}
-use Rattle.base.proofs.Tests.{by-test, and-first, and-second, and-out-second}
-use Rattle.rules.specs.Limits.{lastDelimiter}
+use Rattle.base.proofs.Tests.{by-test}
+use Rattle.rules.specs.Limits.{mostFields, lastDelimiter}
 use Rattle.rules.specs.Layout.{layoutOk}
 use Rattle.rules.specs.Partitions.{partitionsOk}
 use Rattle.rules.specs.Segments.{Segments, segmentsOk}
 use Rattle.rules.proofs.Accepted.{layout-facts, partitions-facts, segments-facts}
 use Rattle.c_rules.specs.Numbers.{numbersIn}
-use Rattle.c_rules.specs.Tables.{fieldsGiven, codeGiven, layoutFrom, partitionsFrom, segmentsFrom}
+use Rattle.c_rules.specs.Tables.{fieldsGiven, layoutFrom, partitionsFrom, segmentsFrom}
 use Rattle.c_rules.proofs.Bytes.{not-in-eights, length-numbers, length-times}
+use Rattle.c_rules.proofs.Slots.{moduli-enough, offsets-enough, under-moduli, under-offsets, no-code}
 use Rattle.c_outcomes.specs.Malformed.{NotInEights, Under, Malformed}
 
 -- what cannot hold is false
@@ -31,41 +31,30 @@ unfolding numbersIn
 most-in s = by-test (eqb (length s % 8) 0) (λ t. rw t (omega arith)) (λ f. rw f (omega arith))
 
 module _ (n d : ℕ) (moduli offsets : List ℕ) where
-  moduli-enough : fieldsGiven n moduli offsets ≤ numbersIn moduli
-  unfolding fieldsGiven
-  moduli-enough =
-      by-test (leb n (numbersIn moduli) && leb n (numbersIn offsets)) (λ t. rw t (leb-true n (numbersIn moduli) (and-first _ _ t))) (λ f. rw f (omega arith))
-
-  offsets-enough : fieldsGiven n moduli offsets ≤ numbersIn offsets
-  unfolding fieldsGiven
-  offsets-enough =
-      by-test (leb n (numbersIn moduli) && leb n (numbersIn offsets))
-      (λ t. rw t (leb-true n (numbersIn offsets) (and-second (leb n (numbersIn moduli)) _ t)))
-      (λ f. rw f (omega arith))
-
   no-fields : fieldsGiven n moduli offsets ≡ 0 → layoutOk (layoutFrom n d moduli offsets) ≡ false
   no-fields e = not-so _ (λ ok. let some = layout-facts (layoutFrom n d moduli offsets) ok .fields in omega arith)
 
   bad-moduli : NotInEights moduli → layoutOk (layoutFrom n d moduli offsets) ≡ false
-  bad-moduli h = no-fields (omega (arith, moduli-enough, none-in moduli h))
+  bad-moduli h = no-fields (omega (arith, moduli-enough n moduli offsets, none-in moduli h))
 
   bad-offsets : NotInEights offsets → layoutOk (layoutFrom n d moduli offsets) ≡ false
-  bad-offsets h = no-fields (omega (arith, offsets-enough, none-in offsets h))
+  bad-offsets h = no-fields (omega (arith, offsets-enough n moduli offsets, none-in offsets h))
 
-  under-moduli : Under n moduli → layoutOk (layoutFrom n d moduli offsets) ≡ false
+  few-moduli : Under n moduli → layoutOk (layoutFrom n d moduli offsets) ≡ false
+  few-moduli h = no-fields (under-moduli n moduli offsets (omega (arith, most-in moduli)))
+
+  few-offsets : Under n offsets → layoutOk (layoutFrom n d moduli offsets) ≡ false
+  few-offsets h = no-fields (under-offsets n moduli offsets (omega (arith, most-in offsets)))
+
+  too-many : mostFields < n → layoutOk (layoutFrom n d moduli offsets) ≡ false
   unfolding fieldsGiven
-  under-moduli h = no-fields (rw (lt-leb n (numbersIn moduli) (omega (arith, most-in moduli))))
-
-  under-offsets : Under n offsets → layoutOk (layoutFrom n d moduli offsets) ≡ false
-  unfolding fieldsGiven
-  under-offsets h = no-fields (rw (and-out-second (leb n (numbersIn moduli)) (lt-leb n (numbersIn offsets) (omega (arith, most-in offsets)))))
-
-  no-code : lastDelimiter < d → codeGiven d ≡ 0
-  unfolding codeGiven
-  no-code h = rw (lt-leb d lastDelimiter h)
+  too-many h =
+      by-test (leb n (numbersIn moduli) && leb n (numbersIn offsets))
+      (λ t. not-so _ (λ ok. let few = layout-facts (layoutFrom n d moduli offsets) ok .few-fields in let e : fieldsGiven n moduli offsets ≡ n = rw t in omega (arith, e)))
+      (λ f. no-fields (rw f))
 
   bad-code : lastDelimiter < d → layoutOk (layoutFrom n d moduli offsets) ≡ false
-  bad-code h = not-so _ (λ ok. let low = layout-facts (layoutFrom n d moduli offsets) ok .delimiter-low in omega (arith, no-code h))
+  bad-code h = not-so _ (λ ok. let low = layout-facts (layoutFrom n d moduli offsets) ok .delimiter-low in omega (arith, no-code d h))
 
 module _ (P : ℕ) (starts ends : List ℕ) where
   bad-starts : NotInEights starts → partitionsOk P (partitionsFrom starts ends) ≡ false
@@ -92,8 +81,9 @@ malformed =
     record {
       moduli = bad-moduli;
       offsets = bad-offsets;
-      few-moduli = under-moduli;
-      few-offsets = under-offsets;
+      few-moduli = few-moduli;
+      few-offsets = few-offsets;
+      many-fields = too-many;
       delimiter = bad-code;
       starts = bad-starts;
       ends = bad-ends;

@@ -15,6 +15,7 @@ use Rattle.base.proofs.Tests.{and-first, and-second}
 use Rattle.rules.specs.Limits.{mostFields, lastDelimiter}
 use Rattle.c_rules.specs.Numbers.{little, bytesOf, numbersIn, eights, numbers, signedOf, unsignedOf, times, timeBytes}
 use Rattle.c_rules.specs.Tables.{slots, fieldsGiven, codeGiven, layoutFrom}
+use Rattle.c_rules.proofs.Slots.{cut}
 use Rattle.c_outcomes.specs.SameNumbers.{asBytes, Words, IsTime, AllTimes, LayoutOf, SameNumbers}
 
 little-bytes : (k w : ℕ) → w < 256 ^ k → little (bytesOf k w) ≡ w
@@ -92,14 +93,6 @@ same-time : (t : ℤ) → IsTime t → times (timeBytes t) ≡ t ∷ []
 unfolding timeBytes asBytes AllTimes
 same-time t h = rw (← (append-nil (bytesOf 8 (unsignedOf t)))) (same-times (t ∷ []) (h, tt))
 
--- the first n slots of a list cut to n
-cut : (n k : ℕ) (xs : List ℕ) → n ≤ k → n ≤ length xs → take n (slots k (take n xs)) ≡ take n xs
-unfolding slots
-cut zero k xs h l = refl
-cut (suc n) zero xs h l = absurd (omega arith)
-cut (suc n) (suc k) [] h l = absurd (omega arith)
-cut (suc n) (suc k) (x ∷ xs) h l = ap (λ (s : List ℕ). x ∷ s) (cut n k xs (omega arith) (omega arith))
-
 module _ (n d : ℕ) (xs ys : List ℕ) (wx : Words xs) (wy : Words ys) (few : n ≤ mostFields) (code : d ≤ lastDelimiter) (lx : n ≤ length xs) (ly : n ≤ length ys) where
   fields-are : fieldsGiven n (asBytes xs) (asBytes ys) ≡ n
   unfolding fieldsGiven
@@ -116,4 +109,4 @@ module _ (n d : ℕ) (xs ys : List ℕ) (wx : Words xs) (wy : Words ys) (few : n
       }
 
 pub same-numbers : SameNumbers
-same-numbers = record { list = same-list; time-list = same-times; time = same-time; layout = same-layout }
+same-numbers = record { list = same-list; time-list = same-times; time = same-time; layout = same-layout; partition-lists = λ xs ys h k. rw (same-list xs h, same-list ys k); segment-lists = λ cs ts rs h t k. rw (same-list cs h, same-times ts t, same-list rs k) }

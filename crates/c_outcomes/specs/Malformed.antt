@@ -5,7 +5,7 @@ use mathlib.Core.Path.{_≡_}
 use mathlib.Core.Bool.{false}
 use mathlib.Core.List.{List}
 use lib.ListN.{length}
-use Rattle.rules.specs.Limits.{lastDelimiter}
+use Rattle.rules.specs.Limits.{mostFields, lastDelimiter}
 use Rattle.rules.specs.Layout.{layoutOk}
 use Rattle.rules.specs.Partitions.{partitionsOk}
 use Rattle.rules.specs.Segments.{segmentsOk}
@@ -23,6 +23,7 @@ pub record Malformed : Type 0 where
   pub offsets : (n d : ℕ) (moduli offsets : List ℕ) → NotInEights offsets → layoutOk (layoutFrom n d moduli offsets) ≡ false
   pub few-moduli : (n d : ℕ) (moduli offsets : List ℕ) → Under n moduli → layoutOk (layoutFrom n d moduli offsets) ≡ false
   pub few-offsets : (n d : ℕ) (moduli offsets : List ℕ) → Under n offsets → layoutOk (layoutFrom n d moduli offsets) ≡ false
+  pub many-fields : (n d : ℕ) (moduli offsets : List ℕ) → mostFields < n → layoutOk (layoutFrom n d moduli offsets) ≡ false
   pub delimiter : (n d : ℕ) (moduli offsets : List ℕ) → lastDelimiter < d → layoutOk (layoutFrom n d moduli offsets) ≡ false
   pub starts : (P : ℕ) (starts ends : List ℕ) → NotInEights starts → partitionsOk P (partitionsFrom starts ends) ≡ false
   pub ends : (P : ℕ) (starts ends : List ℕ) → NotInEights ends → partitionsOk P (partitionsFrom starts ends) ≡ false

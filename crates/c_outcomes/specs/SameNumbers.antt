@@ -12,7 +12,9 @@ use Rattle.base.specs.Scans.{all}
 use Rattle.rules.specs.Limits.{mostFields, lastDelimiter}
 use Rattle.rules.specs.Layout.{moduliOf, offsetsOf}
 use Rattle.c_rules.specs.Numbers.{bytesOf, numbers, unsignedOf, times, timeBytes}
-use Rattle.c_rules.specs.Tables.{layoutFrom}
+use Rattle.rules.specs.Partitions.{partitions}
+use Rattle.rules.specs.Segments.{segments}
+use Rattle.c_rules.specs.Tables.{layoutFrom, partitionsFrom, segmentsFrom}
 
 -- a list as bytes, eight for each number, low byte first
 unfoldable pub asBytes : List ℕ → List ℕ
@@ -44,3 +46,5 @@ pub record SameNumbers : Type 0 where
   pub time : (t : ℤ) → IsTime t → times (timeBytes t) ≡ t ∷ []
   -- lists that are longer than n too
   pub layout : (n d : ℕ) (xs ys : List ℕ) → Words xs → Words ys → n ≤ mostFields → d ≤ lastDelimiter → n ≤ length xs → n ≤ length ys → LayoutOf n d xs ys
+  pub partition-lists : (xs ys : List ℕ) → Words xs → Words ys → partitionsFrom (asBytes xs) (asBytes ys) ≡ partitions xs ys
+  pub segment-lists : (cs : List ℕ) (ts : List ℤ) (rs : List ℕ) → Words cs → AllTimes ts → Words rs → segmentsFrom (asBytes cs) (asBytes (map unsignedOf ts)) (asBytes rs) ≡ segments cs ts rs

@@ -147,6 +147,8 @@ callCases =
     ∷ case (textUnder (2 ^ 61) 1 moduliA offsetsA "12.3") (refuses 1 [])
     ∷ case (textUnder (2 ^ 61 + 2) 1 moduliA offsetsA "12.3") (refuses 1 [])
     ∷ case (textUnder 2 1 (moduliA ++ replicate 72 0) (offsetsA ++ replicate 80 255) "12.3") (gives (pos 123) [])
+    ∷ case (textUnder 11 1 (moduliA ++ one 1 ++ one 1 ++ one 1 ++ one 1 ++ one 1 ++ one 1 ++ one 1 ++ one 1 ++ one 1) (offsetsA ++ replicate 72 0) "12.3") (refuses 1 [])
+    ∷ case (textUnder 258 1 (moduliA ++ replicate 2_048 0) (offsetsA ++ replicate 2_048 0) "12.3") (refuses 1 [])
     ∷ case (textUnder 0 1 [] [] "12.3") (refuses 1 [])
     -- delimiters are numbers of 64 bits
     ∷ case (textUnder 2 5 moduliA offsetsA "12.3") (gives (pos 123) [])

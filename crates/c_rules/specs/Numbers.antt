@@ -36,7 +36,7 @@ unsignedOf (negsuc n) = 2 ^ 64 - 1 - n
 unfoldable pub times : List ℕ → List ℤ
 times s = map signedOf (numbers s)
 
--- the last k bytes of a number, "low byte first"
+-- the k low bytes of a number, "low byte first"
 unfoldable pub bytesOf : ℕ → ℕ → List ℕ
 bytesOf zero w = []
 bytesOf (suc k) w = w % 256 ∷ bytesOf k (w / 256)

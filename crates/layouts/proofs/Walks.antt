@@ -21,13 +21,15 @@ pub all-start : (xs : List ℕ) (n limit : ℕ) → n ≤ length xs → AllFrom 
 all-start xs n limit h = record { within = h; same = refl }
 
 module _ (r : Bool) (xs : List ℕ) (n limit i : ℕ) (w : AllFrom r xs n limit i) where
-  pub all-turn : i < n → getD xs i 0 ≤ limit → AllFrom r xs n limit (i + 1)
-  unfolding all
-  all-turn l h = record { within = w .within; same = w .same ∙ rw (slots-next xs n i (w .within) l, le-leb _ _ h) }
+  -- slot i, wherever the code has it from
+  module _ (l : i < n) (x : ℕ) (e : x ≡ getD xs i 0) where
+    pub all-turn : x ≤ limit → AllFrom r xs n limit (i + 1)
+    unfolding all
+    all-turn h = record { within = w .within; same = w .same ∙ rw (slots-next xs n i (w .within) l, ← e, le-leb _ _ h) }
 
-  pub all-stop : i < n → limit < getD xs i 0 → false ≡ r
-  unfolding all
-  all-stop l h = sym (w .same ∙ rw (slots-next xs n i (w .within) l, lt-leb _ _ h))
+    pub all-stop : limit < x → false ≡ r
+    unfolding all
+    all-stop h = sym (w .same ∙ rw (slots-next xs n i (w .within) l, ← e, lt-leb _ _ h))
 
   pub all-end : n ≤ i → true ≡ r
   unfolding all
@@ -43,10 +45,10 @@ pub product-start : (xs : List ℕ) (n cap : ℕ) → n ≤ length xs → 1 ≤ 
 product-start xs n cap h k = record { within = h; capped = k; same = rw one-mul }
 
 module _ (p : ℕ) (xs : List ℕ) (n cap i a : ℕ) (w : ProductFrom p xs n cap i a) where
-  pub product-turn : (b : ℕ) → i < n → b ≡ min (a * getD xs i 0) cap → ProductFrom p xs n cap (i + 1) b
+  pub product-turn : i < n → (x : ℕ) → x ≡ getD xs i 0 → (b : ℕ) → b ≡ min (a * x) cap → ProductFrom p xs n cap (i + 1) b
   unfolding product
-  product-turn b l h =
-      record { within = w .within; capped = omega arith; same = w .same ∙ rw (slots-next xs n i (w .within) l, h, capped-mul, mul-assoc) }
+  product-turn l x e b h =
+      record { within = w .within; capped = omega arith; same = w .same ∙ rw (slots-next xs n i (w .within) l, ← e, h, capped-mul, mul-assoc) }
 
   pub product-end : n ≤ i → a ≡ min p cap
   unfolding product

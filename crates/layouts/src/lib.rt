@@ -5,7 +5,7 @@ ghost use lib.Dec.{leb};
 ghost use lib.ListN.{length, take, drop};
 ghost use Rattle.base.specs.Scans.{all, product};
 ghost use Rattle.rules.specs.Limits.{mostFields};
-ghost use Rattle.layouts.specs.Measure.{measureAnswer, measureOf};
+ghost use Rattle.layouts.specs.Measure.{measureAnswer, measureOf, headOk, measuredBy};
 use rules::Layout;
 use rules::Refusal;
 use wide::mul_capped;
@@ -27,27 +27,40 @@ pub fn measure(layout: Layout) -> MeasureAnswer
     ensures { λ r. ⌜ measureAnswer r ≡ measureOf layout ⌝ }
 {
     let n = layout.n;
-    if n < 1 {
-        return MeasureAnswer::Refused(refusals::LAYOUT);
-    }
-    if Layout::MOST_FIELDS < n {
-        return MeasureAnswer::Refused(refusals::LAYOUT);
-    }
-    let delimiter = layout.delimiter;
-    if delimiter < 1 {
-        return MeasureAnswer::Refused(refusals::LAYOUT);
-    }
-    if limits::LAST_DELIMITER < delimiter {
+    if !head_ok(n, layout.delimiter) {
         return MeasureAnswer::Refused(refusals::LAYOUT);
     }
     if !all_at_most(&layout.offsets, n, Layout::LARGEST_OFFSET) {
         return MeasureAnswer::Refused(refusals::LAYOUT);
     }
     let msf = product_capped(&layout.moduli, n, Layout::LARGEST_MSF + 1);
+    measure_moduli(layout.moduli[0], msf)
+}
+
+// Whether n and the delimiter's code are within their limits.
+pub fn head_ok(n: usize, delimiter: u8) -> bool
+    ensures { λ r. ⌜ r ≡ headOk n delimiter ⌝ }
+{
+    if n < 1 {
+        return false;
+    }
+    if Layout::MOST_FIELDS < n {
+        return false;
+    }
+    if delimiter < 1 {
+        return false;
+    }
+    delimiter <= limits::LAST_DELIMITER
+}
+
+// By the first modulus and the product of the others.
+pub fn measure_moduli(first: u64, msf: u64) -> MeasureAnswer
+    ensures { λ r. ⌜ measureAnswer r ≡ measuredBy first msf ⌝ }
+{
     if Layout::LARGEST_MSF < msf {
         return MeasureAnswer::Refused(refusals::LAYOUT);
     }
-    let product = mul_capped(layout.moduli[0], msf, Layout::LARGEST_P + 1);
+    let product = mul_capped(first, msf, Layout::LARGEST_P + 1);
     if Layout::LARGEST_P < product {
         return MeasureAnswer::Refused(refusals::LAYOUT);
     }

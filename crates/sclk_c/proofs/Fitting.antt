@@ -1,15 +1,13 @@
 -- Each call: its result is an i64, and what comes back is that of the inner call under the layout that the bytes make.
-use Prim.Native.Nat.{ℕ, _^_, _<_}
+use Prim.Native.Nat.{ℕ, _<_}
 use mathlib.Core.Path.{_≡_, refl, ap, _∙_}
 use mathlib.Core.List.{List}
 use lib.Dec.{lit<}
 use lib.IntN.{ℤ}
-use lib.ListN.{length}
 use mir.Syntax.{w64}
 use mir.Val.{SFits, toZ, ofZ}
 use mir.Facts.{toZ-ofZ}
 use Rattle.base.specs.Scans.{all, among}
-use Rattle.rules.specs.Limits.{largestCount, largestTotal}
 use Rattle.rules.specs.declared.Layout.{Layout}
 use Rattle.rules.specs.declared.ReadAnswer.{ReadAnswer}
 use Rattle.rules.specs.declared.CountAnswer.{CountAnswer}
@@ -86,12 +84,11 @@ module _ (l : Layout) (p : Partitions) (g : Segments) (c room : ℕ) (x : TimeAn
   unfolding all among timeOfRefusals
   time-fits = rw e (returnable _ _ _ (results .time-of l p g c room) (lit< tt) refl refl)
 
-  module _ (m : Layout) (q : l ≡ m) where
-    pub time-back : (z : ℤ) → SFits w64 z → z ≡ returned (zeroGiven (timeWritten (timeAnswer x) room)) → toZ w64 (ofZ w64 z) ≡ returned (zeroGiven (timeWritten (timeOf m p g c) room))
-    time-back z f r = back z _ _ f r (rw (e, q))
+  pub time-back : (z : ℤ) → SFits w64 z → z ≡ returned (zeroGiven (timeWritten (timeAnswer x) room)) → toZ w64 (ofZ w64 z) ≡ returned (zeroGiven (timeWritten (timeOf l p g c) room))
+  time-back z f r = back z _ _ f r (rw e)
 
-    pub time-left : (entry exit : List ℕ) → exit ≡ bufferAfter (timeWritten (timeAnswer x) room) entry → exit ≡ bufferAfter (timeWritten (timeOf m p g c) room) entry
-    time-left entry exit h = rw (e, q) at h
+  pub time-left : (entry exit : List ℕ) → exit ≡ bufferAfter (timeWritten (timeAnswer x) room) entry → exit ≡ bufferAfter (timeWritten (timeOf l p g c) room) entry
+  time-left entry exit h = rw e at h
 
 -- a time is its bits at a call
 module _ (l : Layout) (p : Partitions) (g : Segments) (t : ℤ) (ft : SFits w64 t) (x : CountAnswer) (e : countAnswer x ≡ countAt l p g (toZ w64 (ofZ w64 t))) where
@@ -99,5 +96,5 @@ module _ (l : Layout) (p : Partitions) (g : Segments) (t : ℤ) (ft : SFits w64 
   unfolding all among countAtRefusals
   count-fits = rw (e, toZ-ofZ ft) (returnable _ _ _ (results .count-at l p g t) (lit< tt) refl refl)
 
-  pub count-back : (m : Layout) → l ≡ m → (z : ℤ) → SFits w64 z → z ≡ returned (countGiven (countAnswer x)) → toZ w64 (ofZ w64 z) ≡ returned (countGiven (countAt m p g t))
-  count-back m q z f r = back z _ _ f r (rw (e, q, toZ-ofZ ft))
+  pub count-back : (z : ℤ) → SFits w64 z → z ≡ returned (countGiven (countAnswer x)) → toZ w64 (ofZ w64 z) ≡ returned (countGiven (countAt l p g t))
+  count-back z f r = back z _ _ f r (rw (e, toZ-ofZ ft))

@@ -121,8 +121,18 @@ pub extern "C" fn sclk_time_of(
     ensures { λ r. ⌜ r ≡ returned (zeroGiven (timeWritten (timeOf (layoutFrom n delimiter (now (moduli .entry)) (now (offsets .entry))) (partitionsFrom (now (starts .entry)) (now (ends .entry))) (segmentsFrom (now (counts .entry)) (now (times .entry)) (now (rates .entry))) count) (length (now (time .entry))))) ⌝ }
     ensures { λ r. ⌜ now (time .exit) ≡ bufferAfter (timeWritten (timeOf (layoutFrom n delimiter (now (moduli .entry)) (now (offsets .entry))) (partitionsFrom (now (starts .entry)) (now (ends .entry))) (segmentsFrom (now (counts .entry)) (now (times .entry)) (now (rates .entry))) count) (length (now (time .entry)))) (now (time .entry)) ⌝ }
 {
-    let layout = layout_of(n, delimiter, moduli, offsets);
-    let answer = time_of(layout, starts, ends, counts, times, rates, count);
+    let answer = time_of(
+        n,
+        delimiter,
+        moduli,
+        offsets,
+        starts,
+        ends,
+        counts,
+        times,
+        rates,
+        count,
+    );
     time_given(answer, time)
 }
 
@@ -141,6 +151,17 @@ pub extern "C" fn sclk_count_at(
 ) -> i64
     ensures { λ r. ⌜ r ≡ returned (countGiven (countAt (layoutFrom n delimiter (now (moduli .entry)) (now (offsets .entry))) (partitionsFrom (now (starts .entry)) (now (ends .entry))) (segmentsFrom (now (counts .entry)) (now (times .entry)) (now (rates .entry))) time)) ⌝ }
 {
-    let layout = layout_of(n, delimiter, moduli, offsets);
-    count_given(count_at(layout, starts, ends, counts, times, rates, time))
+    let answer = count_at(
+        n,
+        delimiter,
+        moduli,
+        offsets,
+        starts,
+        ends,
+        counts,
+        times,
+        rates,
+        time,
+    );
+    count_given(answer)
 }

@@ -1,4 +1,5 @@
 use Prim.Native.Nat.{_-_, _≤_}
+use mathlib.Core.Path.{refl}
 use lib.Dec.{leb}
 use lib.ListN.{take}
 use borrow.Author.Needs.{needs}
@@ -22,8 +23,8 @@ all-at-most-spec =
     (λ c. search (all-start, needs))
     (λ c. search needs)
     (λ c. search needs)
-    (λ c. search (all-stop, needs))
+    (λ c. search (all-stop, refl, needs))
     (λ c. search needs)
     (λ c. search needs)
-    (λ c. search (all-turn, needs))
+    (λ c. search (all-turn, refl, needs))
     (λ c. search (all-end, needs)))

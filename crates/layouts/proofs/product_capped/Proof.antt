@@ -1,4 +1,5 @@
 use Prim.Native.Nat.{_-_, _≤_}
+use mathlib.Core.Path.{refl}
 use lib.ListN.{take, drop}
 use borrow.Author.Needs.{needs}
 use Rattle.base.specs.Scans.{product}
@@ -24,5 +25,5 @@ product-capped-spec =
     (λ c κs. search needs)
     (λ c. search needs)
     (λ c. search needs)
-    (λ c. search (product-turn, needs))
+    (λ c. search (product-turn, refl, needs))
     (λ c. search (product-end, needs)))

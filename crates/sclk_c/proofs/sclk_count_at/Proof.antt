@@ -8,6 +8,5 @@ sclk-count-at-spec =
     tie.close
     (tie.spec
     (λ c κs. search needs)
-    (λ c κs. search needs)
     (λ c κs. search (count-fits, needs))
     (λ c. search (count-back, needs)))

@@ -8,7 +8,6 @@ sclk-time-of-spec =
     tie.close
     (tie.spec
     (λ c κs. search needs)
-    (λ c κs. search needs)
     (λ c κs. search (time-fits, needs))
     (λ c. search needs)
     (λ c. (search (time-back, needs), search (time-left, needs))))

@@ -1,5 +1,5 @@
 use borrow.Author.Needs.{needs}
-use Rattle.byte_tables.proofs.Given.{moduli-enough, offsets-enough}
+use Rattle.byte_tables.proofs.Given.{moduli-there, offsets-there}
 use Rattle.byte_tables.proofs.layout.layout_of.Statement.{statement}
 use Rattle.byte_tables.proofs.layout.layout_of.Tie as tie
 
@@ -11,7 +11,7 @@ layout-of-spec =
     tie.close
     (tie.spec
     (λ c κs. search needs)
-    (λ c κs. search (moduli-enough, needs))
-    (λ c κs. search (offsets-enough, needs))
+    (λ c κs. search (moduli-there, needs))
+    (λ c κs. search (offsets-there, needs))
     (λ c κs. search needs)
     returns)
