@@ -57,6 +57,7 @@ pub const MUTANTS: &[Mutant] = &[
     mutant("host-n-wraps-at-61-bits", SLICES, "let moduli = slots(", "let layout = LayoutSlices { n: layout.n << 3 >> 3, ..layout }; let moduli = slots("),
     mutant("host-n-wraps-at-32-bits", SLICES, "let moduli = slots(", "let layout = LayoutSlices { n: layout.n & 0xffff_ffff, ..layout }; let moduli = slots("),
     mutant("host-n-wraps-at-8-bits", SLICES, "let moduli = slots(", "let layout = LayoutSlices { n: layout.n & 0xff, ..layout }; let moduli = slots("),
+    mutant("host-n-wraps-behind-the-lists", SLICES, "Layout { n: layout.n,", "Layout { n: layout.n & 0xff,"),
     mutant("host-n-is-the-moduli", SLICES, "Layout { n: layout.n,", "Layout { n: layout.n.max((layout.moduli.len() / 8) as u64),"),
     mutant("host-delimiter-wraps-at-8-bits", SLICES, CODE, "layout.delimiter as u8"),
     mutant("host-delimiter-wraps-at-16-bits", SLICES, CODE, "u8::try_from(layout.delimiter as u16).unwrap_or(0)"),

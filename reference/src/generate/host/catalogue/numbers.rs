@@ -16,6 +16,15 @@ pub fn all(writer: &mut Writer) {
                 writer.call(-1, format!("n {} of 12 moduli and offsets", n), &call);
             }
         }
+        // Lists that hold n and break no rule: all that is wrong is n, also where it wraps to 2.
+        for n in [11, 258] {
+            let mut call = Call { n: n as u64, ..call.clone() };
+            let mut moduli = vec![1; n];
+            moduli[..2].copy_from_slice(&[100, 10]);
+            call.lists[0] = list(&moduli);
+            call.lists[1] = list(&vec![0; n]);
+            writer.call(-1, format!("n {} of {} good moduli and offsets", n, n), &call);
+        }
         for delimiter in
             [0, 6, 7, 46, 255, 256, 257, 258, 1 << 16, (1 << 16) + 1, (1 << 32) + 1, (1 << 63) + 1, u64::MAX]
         {
