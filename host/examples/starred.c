@@ -6,11 +6,12 @@
  */
 #include <inttypes.h>
 #include <stdio.h>
+#include <stdlib.h>
 #include <string.h>
 
 #include "stitchwold.h"
 
-/* A list as the calls take it: eight-byte numbers, low byte first. Three rows are enough here. */
+/* A list as the calls take it: eight-byte numbers, low byte first. Three numbers are enough here. */
 struct list {
     uint8_t bytes[3 * 8];
     size_t length;
@@ -27,6 +28,10 @@ struct clock {
 static void append(struct list *list, uint64_t number)
 {
     int i;
+    if (list->length > sizeof list->bytes - 8) {
+        fprintf(stderr, "a list is full\n");
+        exit(1);
+    }
     for (i = 0; i < 8; i++)
         list->bytes[list->length++] = (uint8_t)(number >> (8 * i));
 }
