@@ -1,9 +1,9 @@
 /* What is refused for its length is refused unread: every such slice here is memory that nobody may touch.
- * Likewise what an answer does not need: a message's payload, moduli behind the tenth, a buffer's rest.
+ * Likewise what an answer does not need: a message's payload, moduli and offsets behind the n-th, a buffer's
+ * rest. An n over ten is refused also where the lists hold n.
  * Ends with 1 at the first call that touches it or answers differently.
  */
 #define _GNU_SOURCE
-#include <inttypes.h>
 #include <signal.h>
 #include <stdio.h>
 #include <stdlib.h>
@@ -11,32 +11,15 @@
 #include <sys/mman.h>
 #include <unistd.h>
 
-#include "stitchwold.h"
+#include "expect.h"
 
 #define PAGE 4096
 #define GIGABYTES ((size_t)16 << 30) /* reserved, never filled */
 #define LONGEST ((size_t)INT64_MAX)  /* the longest that any object can be */
 
-struct slice {
-    uint8_t *bytes;
-    size_t length;
-};
-
-/* The arguments of all calls; each call takes those that it needs. */
-struct arguments {
-    uint64_t n, delimiter;
-    struct slice moduli, offsets, starts, ends, counts, times, rates;
-    struct slice text, message, buffer;
-    uint64_t count;
-    int64_t time;
-};
-
 /* One page that may be touched, between gigabytes that may not. */
 static uint8_t *page;
 static uint8_t *untouchable;
-
-static const char *now = "at the start";
-static unsigned long made;
 
 static void on_fault(int signal, siginfo_t *info, void *context)
 {
@@ -84,105 +67,6 @@ static struct slice at_start(const uint8_t *bytes, size_t there, size_t length)
     return s;
 }
 
-static struct slice list(uint8_t bytes[16], uint64_t first, uint64_t second)
-{
-    struct slice s = {bytes, 16};
-    for (int i = 0; i < 8; i++) {
-        bytes[i] = (uint8_t)(first >> (8 * i));
-        bytes[8 + i] = (uint8_t)(second >> (8 * i));
-    }
-    return s;
-}
-
-/* Table A, a stamp, a message and a buffer: every call answers. */
-static struct arguments good(void)
-{
-    static uint8_t lists[7][16], buffer[SCLK_LONGEST_STAMP];
-    static uint8_t text[] = {'5', '.', '3'}, message[] = {'5', '.', '3', 0, 3};
-    struct arguments a;
-    a.n = 2;
-    a.delimiter = 1;
-    a.moduli = list(lists[0], 100, 10);
-    a.offsets = list(lists[1], 0, 0);
-    a.starts = list(lists[2], 0, 200);
-    a.ends = list(lists[3], 500, 900);
-    a.counts = list(lists[4], 0, 600);
-    a.times = list(lists[5], (uint64_t)-1000, 1000);
-    a.rates = list(lists[6], 25000, 30000);
-    a.text.bytes = text;
-    a.text.length = sizeof text;
-    a.message.bytes = message;
-    a.message.length = sizeof message;
-    a.buffer.bytes = buffer;
-    a.buffer.length = sizeof buffer;
-    a.count = 1;
-    a.time = -997;
-    return a;
-}
-
-#define SLICE(s) a->s.bytes, a->s.length
-#define LAYOUT a->n, a->delimiter, SLICE(moduli), SLICE(offsets)
-#define PARTITIONS SLICE(starts), SLICE(ends)
-#define SEGMENTS SLICE(counts), SLICE(times), SLICE(rates)
-
-static int64_t read_text(const struct arguments *a)
-{
-    return sclk_read_text(LAYOUT, SLICE(text));
-}
-
-static int64_t read_stamp(const struct arguments *a)
-{
-    return sclk_read_stamp(LAYOUT, PARTITIONS, SLICE(text));
-}
-
-static int64_t read_message(const struct arguments *a)
-{
-    return sclk_read_message(LAYOUT, PARTITIONS, SLICE(message));
-}
-
-static int64_t print_count(const struct arguments *a)
-{
-    return sclk_print_count(LAYOUT, a->count, SLICE(buffer));
-}
-
-static int64_t print_stamp(const struct arguments *a)
-{
-    return sclk_print_stamp(LAYOUT, PARTITIONS, a->count, SLICE(buffer));
-}
-
-static int64_t time_of(const struct arguments *a)
-{
-    return sclk_time_of(LAYOUT, PARTITIONS, SEGMENTS, a->count, SLICE(buffer));
-}
-
-static int64_t count_at(const struct arguments *a)
-{
-    return sclk_count_at(LAYOUT, PARTITIONS, SEGMENTS, a->time);
-}
-
-typedef int64_t calling(const struct arguments *);
-
-/* In order of the tables that they take: a layout, partitions too, segments too. */
-static calling *const calls[] = {read_text, print_count, read_stamp, read_message, print_stamp, time_of, count_at};
-enum { CALLS = 7, WITH_PARTITIONS = 2, WITH_SEGMENTS = 5 };
-
-static void expect(calling *make, const struct arguments *a, int64_t wanted)
-{
-    int64_t result = make(a);
-    made++;
-    if (result != wanted) {
-        fprintf(stderr, "limits: %s: it returned %" PRId64 ", not %" PRId64 "\n", now, result, wanted);
-        exit(1);
-    }
-}
-
-/* All calls from the first that takes the table on. */
-static void expect_all(int first, const struct arguments *a, int64_t wanted)
-{
-    for (int i = first; i < CALLS; i++)
-        expect(calls[i], a, wanted);
-}
-
 /* Lengths that no list may have: over `most` numbers, or not in eights. */
 static size_t wrong_length(int i, size_t most)
 {
@@ -191,6 +75,60 @@ static size_t wrong_length(int i, size_t most)
         LONGEST, LONGEST - 7, LONGEST - 6, (size_t)1 << 32, ((size_t)1 << 32) + 16, ((size_t)1 << 35) + 16,
     };
     return (size_t)i < sizeof lengths / sizeof lengths[0] ? lengths[i] : 0;
+}
+
+/* Of the moduli and offsets n numbers are read, however long the list is. */
+static void numbers_behind_the_nth(void)
+{
+    static const uint64_t moduli[10] = {100, 10, 1, 1, 1, 1, 1, 1, 1, 1}, offsets[10];
+    static uint8_t five[] = {'5'};
+    uint8_t first[80], second[80];
+    now = "moduli or offsets: at most n numbers are read";
+    for (size_t n = 1; n <= 10; n++) {
+        const size_t lengths[] = {8 * n, 8 * n + 8, 80, 88, GIGABYTES / 2, LONGEST - 7};
+        for (size_t i = 0; i < sizeof lengths / sizeof lengths[0]; i++)
+            for (int list = 0; list < 2; list++) {
+                struct arguments a = good();
+                a.n = n;
+                a.moduli = list_of(first, moduli, n);
+                a.offsets = list_of(second, offsets, n);
+                if (list == 0)
+                    a.moduli = at_end(first, 8 * n, lengths[i]);
+                else
+                    a.offsets = at_end(second, 8 * n, lengths[i]);
+                if (n == 2)
+                    expect_answers(&a);
+                a.text.bytes = five;
+                a.text.length = sizeof five;
+                expect(read_text, &a, n == 1 ? 5 : 50);
+            }
+    }
+}
+
+/* The lists hold n good numbers, or n is 2 in its low bits. */
+static void n_over_ten(void)
+{
+    static const struct {
+        uint64_t n;
+        size_t numbers;
+    } wrong[] = {
+        {11, 11}, {12, 12}, {256, 258}, {258, 258}, {258, 2}, {(UINT64_C(1) << 32) + 2, 2}, {(UINT64_C(1) << 61) + 2, 2},
+    };
+    static uint64_t moduli[258], offsets[258];
+    static uint8_t first[8 * 258], second[8 * 258];
+    for (size_t i = 0; i < 258; i++)
+        moduli[i] = 1;
+    moduli[0] = 100;
+    moduli[1] = 10;
+    now = "n over ten";
+    for (size_t i = 0; i < sizeof wrong / sizeof wrong[0]; i++) {
+        struct arguments a = good();
+        a.moduli = list_of(first, moduli, wrong[i].numbers);
+        a.offsets = list_of(second, offsets, wrong[i].numbers);
+        expect_answers(&a); /* with n 2 they are good */
+        a.n = wrong[i].n;
+        expect_all(0, &a, -SCLK_LAYOUT);
+    }
 }
 
 static void layouts(void)
@@ -221,21 +159,8 @@ static void layouts(void)
     a.text = a.buffer = unreadable(GIGABYTES / 2);
     expect_all(0, &a, -SCLK_LAYOUT);
 
-    now = "moduli or offsets behind the tenth";
-    for (int i = 0; i < 2; i++) {
-        const size_t lengths[] = {88, GIGABYTES / 2};
-        uint8_t ten[80];
-        struct arguments b = good(), c = good();
-        memset(ten, 255, sizeof ten); /* those behind the n-th may hold anything */
-        memcpy(ten, b.moduli.bytes, 16);
-        b.moduli = at_end(ten, sizeof ten, lengths[i]);
-        expect(read_text, &b, 53);
-        expect(count_at, &b, 1);
-        memcpy(ten, c.offsets.bytes, 16);
-        c.offsets = at_end(ten, sizeof ten, lengths[i]);
-        expect(read_text, &c, 53);
-        expect(count_at, &c, 1);
-    }
+    numbers_behind_the_nth();
+    n_over_ten();
 }
 
 static void partitions(void)
