@@ -5,6 +5,7 @@
 #include <inttypes.h>
 #include <stdio.h>
 #include <stdlib.h>
+#include <string.h>
 
 const char *now = "at the start";
 unsigned long made;
@@ -97,6 +98,14 @@ void expect(calling *make, const struct arguments *a, int64_t wanted)
     if (result != wanted) {
         fprintf(stderr, "%s: %s: it returned %" PRId64 ", not %" PRId64 "\n", program_invocation_short_name, now, result,
                 wanted);
+        exit(1);
+    }
+}
+
+void expect_bytes(const uint8_t *written, const char *wanted, size_t length)
+{
+    if (memcmp(written, wanted, length) != 0) {
+        fprintf(stderr, "%s: %s: it wrote other bytes\n", program_invocation_short_name, now);
         exit(1);
     }
 }

@@ -41,6 +41,9 @@ extern unsigned long made;
 /* Makes the call; ends the program with 1 if it does not return what is wanted. */
 void expect(calling *make, const struct arguments *a, int64_t wanted);
 
+/* What a call wrote; ends the program with 1 if it is not this. */
+void expect_bytes(const uint8_t *written, const char *wanted, size_t length);
+
 /* All calls, with tables that say the same as good ones. */
 void expect_answers(const struct arguments *a);
 
