@@ -1,14 +1,21 @@
 /* stitchwold.h: spacecraft clock text (SPICE SCLK type 1) for host programs, C99 and C++. x86-64 Linux.
- * docs/RULES.md has the rules. A count is a number of ticks on the clock's face, an encoded count one that runs through
- * all partitions.
+ * docs/RULES.md has the rules. A count is the number of ticks that a clock text shows, an encoded count one that runs
+ * through all partitions. Times count from the epoch of the segments' times, whichever that is.
  *
  * A host keeps the bytes of its clock's tables and passes them with every call:
  *   layout      n, the number of fields; delimiter, a code: 1 '.', 2 ':', 3 '-', 4 ',', 5 blank; moduli; offsets
  *   partitions  starts; ends
- *   segments    counts; times, in nanoseconds; rates, in picoseconds per first-field count
+ *   segments    counts, encoded; times, in nanoseconds; rates, in picoseconds per first-field count
  *
- * A list is a row of eight-byte numbers, low byte first; times are two's complement. It is passed as a pointer and a
- * length IN BYTES. Moduli and offsets have n numbers or more; those behind the n-th may be anything.
+ * Their limits (MSF is the product of all moduli but the first):
+ *   layout      n 1 to 10; moduli at least 1, their product at most 10^15, MSF at most 10^12; offsets at most 1,000
+ *   partitions  1 to 9,999, as many starts as ends; each start below its end, each end below the product of the moduli;
+ *               the total, which is the sum of the lengths (end - start), at most 10^15
+ *   segments    1 to 10,000, as many counts as times and rates; counts and times grow strictly; the last count at most
+ *               the total; times within +-4*10^18, also those reached where segments end; rates 1,000*MSF to 10^15
+ *
+ * A list is a sequence of eight-byte numbers, low byte first; times are two's complement. It is passed as a pointer and
+ * a length IN BYTES. Moduli and offsets have n numbers or more; those behind the n-th may be anything.
  *
  * Pointers may have any alignment, and may be NULL where the length is 0. Lists, text and message may overlap each
  * other; a buffer may overlap nothing else. Nothing is kept after the call. The calls have no state: any number of
