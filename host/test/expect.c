@@ -96,8 +96,8 @@ void expect(calling *make, const struct arguments *a, int64_t wanted)
     int64_t result = make(a);
     made++;
     if (result != wanted) {
-        fprintf(stderr, "%s: %s: it returned %" PRId64 ", not %" PRId64 "\n", program_invocation_short_name, now, result,
-                wanted);
+        fprintf(stderr, "%s: %s: it returned %" PRId64 ", not %" PRId64 "\n", program_invocation_short_name, now,
+                result, wanted);
         exit(1);
     }
 }

@@ -112,7 +112,8 @@ static void n_over_ten(void)
         uint64_t n;
         size_t numbers;
     } wrong[] = {
-        {11, 11}, {12, 12}, {256, 258}, {258, 258}, {258, 2}, {(UINT64_C(1) << 32) + 2, 2}, {(UINT64_C(1) << 61) + 2, 2},
+        {11, 11}, {12, 12}, {256, 258}, {258, 258}, {258, 2},
+        {(UINT64_C(1) << 32) + 2, 2}, {(UINT64_C(1) << 61) + 2, 2},
     };
     static uint64_t moduli[258], offsets[258];
     static uint8_t first[8 * 258], second[8 * 258];
