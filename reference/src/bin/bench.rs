@@ -3,8 +3,9 @@
 
 use std::fmt::Write;
 
-use reference::{count_at, microseconds, print_stamp, read_kernel, read_message, read_stamp, steps_back, time_of};
-use reference::{Layout, Partitions, RawCounter, Segments};
+use reference::host::{self, LayoutSlices, PartitionSlices, SegmentSlices};
+use reference::{count_at, microseconds, print_count, print_stamp, read_kernel, read_message, read_stamp, read_text};
+use reference::{steps_back, time_of, Layout, Partitions, RawCounter, Segments};
 
 extern "C" {
     /// C's `clock`: microseconds of processor time. The proved program reads the same.
@@ -68,6 +69,54 @@ fn messages() -> Vec<u8> {
         all.extend_from_slice(&[0, 14]);
     }
     all
+}
+
+/// Messages of a stamp and its trailer. Each stamp names its partition, one of those of `partition_lines`.
+fn partition_messages(rows: u64, ticks: u64) -> Vec<Vec<u8>> {
+    let mut x = 1;
+    let message = |_| {
+        x = next(x);
+        let encoded = scaled(x, rows * ticks);
+        let row = encoded / ticks;
+        let count = encoded + row;
+        let text = format!("{}/{:05}:{:02}:{:03}", 1 + row, count / 48_000, count / 800 % 60, count % 800 + 1);
+        [text.as_bytes(), &[0, text.len() as u8]].concat()
+    };
+    (0..TEXTS).map(message).collect()
+}
+
+/// A list for the C calls: eight bytes a number, low byte first.
+fn list(numbers: &[u64]) -> Vec<u8> {
+    numbers.iter().flat_map(|number| number.to_le_bytes()).collect()
+}
+
+/// The layout's lists for the C calls.
+struct LayoutLists {
+    moduli: Vec<u8>,
+    offsets: Vec<u8>,
+}
+
+impl LayoutLists {
+    fn new() -> LayoutLists {
+        LayoutLists { moduli: list(&LAYOUT.moduli[..3]), offsets: list(&LAYOUT.offsets[..3]) }
+    }
+
+    /// As unknown to the compiler as the layout itself.
+    fn slices(&self) -> LayoutSlices<'_> {
+        let layout = unknown(&LAYOUT);
+        let (moduli, offsets) = (unknown(&self.moduli), unknown(&self.offsets));
+        LayoutSlices { n: layout.n, delimiter: layout.delimiter.into(), moduli, offsets }
+    }
+}
+
+/// What a C call returned, that is not refused.
+fn returned(answer: i64) -> u64 {
+    u64::try_from(answer).unwrap()
+}
+
+/// A print's length and last byte.
+fn printed(length: u64, buffer: &[u8]) -> u64 {
+    length * 256 + u64::from(buffer[length as usize - 1])
 }
 
 /// The kernel text of a clock -77 with so many segments and partitions.
@@ -163,6 +212,7 @@ fn main() {
         line(names[1], many(times, 100), timed, |x| {
             count_at(unknown(&LAYOUT), one, segments, scaled(x, latest) as i64).unwrap()
         });
+        c_time_lines(n, &rows, latest, many(times, 100), timed);
         if n == 100 {
             line("stamp-time-100", many(times, 100), timed, |x| {
                 let at = (x as usize % TEXTS) * 16;
@@ -219,4 +269,83 @@ fn main() {
             }
         });
     }
+
+    text_lines(many(5_000_000, 1_000), timed);
+    for (rows, times) in [(1, many(5_000_000, 1_000)), (100, many(1_000_000, 100)), (9_999, many(10_000, 100))] {
+        partition_lines(rows, times, timed);
+    }
+}
+
+/// The C calls of count to time and time to count under the same segments, one partition.
+fn c_time_lines(n: u64, rows: &Rows, latest: u64, times: u64, timed: bool) {
+    let layout = LayoutLists::new();
+    let (start, end) = (list(&[0]), list(&[LAST]));
+    let partitions = PartitionSlices { starts: &start, ends: &end };
+    let (count, rate) = (list(&rows.count), list(&rows.rate));
+    let time: Vec<u8> = rows.time.iter().flat_map(|time| time.to_le_bytes()).collect();
+    let segments = SegmentSlices { counts: &count, times: &time, rates: &rate };
+    line(&format!("c-time-of-{n}"), times, timed, |x| {
+        let mut buffer = [0; 8];
+        assert!(host::time_of(layout.slices(), partitions, segments, scaled(x, LAST), &mut buffer) == 0);
+        u64::from_le_bytes(buffer) ^ (1 << 63)
+    });
+    line(&format!("c-count-at-{n}"), times, timed, |x| {
+        returned(host::count_at(layout.slices(), partitions, segments, scaled(x, latest) as i64))
+    });
+}
+
+/// Clock text and counts, by the inner calls and the C calls.
+fn text_lines(times: u64, timed: bool) {
+    let layout = LayoutLists::new();
+    let messages = partition_messages(1, LAST - 1);
+    // Without the partition in front and the trailer.
+    let text = |x: u64| &messages[x as usize % TEXTS][2..14];
+    line("read-text", times, timed, |x| read_text(unknown(&LAYOUT), text(x)).unwrap());
+    line("c-read-text", times, timed, |x| returned(host::read_text(layout.slices(), text(x))));
+    line("print-count", times, timed, |x| {
+        let mut buffer = [0; 32];
+        let length = print_count(unknown(&LAYOUT), scaled(x, LAST), &mut buffer).unwrap();
+        printed(length as u64, &buffer)
+    });
+    line("c-print-count", times, timed, |x| {
+        let mut buffer = [0; 32];
+        let length = host::print_count(layout.slices(), scaled(x, LAST), &mut buffer);
+        printed(returned(length), &buffer)
+    });
+}
+
+/// Stamps and messages under so many partitions, by the inner calls and the C calls. Each partition has so many ticks, and
+/// one is left out before the next.
+fn partition_lines(rows: u64, times: u64, timed: bool) {
+    let ticks = LAST / rows - 1;
+    let total = rows * ticks;
+    let start: Vec<u64> = (0..rows).map(|i| i * (ticks + 1)).collect();
+    let end: Vec<u64> = start.iter().map(|start| start + ticks).collect();
+    let (starts, ends) = (list(&start), list(&end));
+    let partitions = Partitions { start: &start, end: &end };
+    let slices = PartitionSlices { starts: &starts, ends: &ends };
+    let layout = LayoutLists::new();
+    let messages = partition_messages(rows, ticks);
+    let message = |x: u64| &messages[x as usize % TEXTS][..];
+    let stamp = |x: u64| &message(x)[..message(x).len() - 2];
+    line(&format!("read-stamp-{rows}"), times, timed, |x| read_stamp(unknown(&LAYOUT), partitions, stamp(x)).unwrap());
+    line(&format!("c-read-stamp-{rows}"), times, timed, |x| {
+        returned(host::read_stamp(layout.slices(), slices, stamp(x)))
+    });
+    line(&format!("read-message-{rows}"), times, timed, |x| {
+        read_message(unknown(&LAYOUT), partitions, message(x)).unwrap()
+    });
+    line(&format!("c-read-message-{rows}"), times, timed, |x| {
+        returned(host::read_message(layout.slices(), slices, message(x)))
+    });
+    line(&format!("print-stamp-{rows}"), times, timed, |x| {
+        let mut buffer = [0; 32];
+        let length = print_stamp(unknown(&LAYOUT), partitions, scaled(x, total), &mut buffer).unwrap();
+        printed(length as u64, &buffer)
+    });
+    line(&format!("c-print-stamp-{rows}"), times, timed, |x| {
+        let mut buffer = [0; 32];
+        let length = host::print_stamp(layout.slices(), slices, scaled(x, total), &mut buffer);
+        printed(returned(length), &buffer)
+    });
 }
