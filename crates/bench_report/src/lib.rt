@@ -11,13 +11,20 @@ pub const LAST: u64 = 3_145_727_999;
 // The compiler cannot know these numbers, nor that they are the same for the next question: else it would divide by constants,
 // and check the layout once for all questions.
 pub fn layout() -> Layout {
-    let zero = (os::arg_count() / 4_294_967_296) as u64 % 4_294_967_296;
+    let zero = unknown_zero();
     Layout {
         n: 3 + zero as usize,
         moduli: [65_536 + zero, 60 + zero, 800 + zero, 0, 0, 0, 0, 0, 0, 0],
         offsets: [zero, zero, 1 + zero, 0, 0, 0, 0, 0, 0, 0],
         delimiter: 2 + (zero % 8) as u8,
     }
+}
+
+// 0, which the compiler cannot know.
+pub fn unknown_zero() -> u64
+    ensures { λ r. ⌜ r < 4294967296 ⌝ }
+{
+    (os::arg_count() / 4_294_967_296) as u64 % 4_294_967_296
 }
 
 // Pseudo-random numbers below 2^31.
@@ -70,6 +77,19 @@ fn microseconds(from: i64, to: i64) -> u64 {
 pub fn line(name: &[u8], times: u64, sum: u64, timed: bool, from: i64) {
     let taken = microseconds(from, libc::clock());
     io::write_all(STDOUT_FILENO, name);
+    rest_of_line(times, sum, timed, taken);
+}
+
+// The same, with the number of a table's rows behind the name.
+pub fn table_line(name: &[u8], rows: u64, times: u64, sum: u64, timed: bool, from: i64) {
+    let taken = microseconds(from, libc::clock());
+    io::write_all(STDOUT_FILENO, name);
+    io::write_all(STDOUT_FILENO, b"-");
+    io::print_decimal(STDOUT_FILENO, rows);
+    rest_of_line(times, sum, timed, taken);
+}
+
+fn rest_of_line(times: u64, sum: u64, timed: bool, taken: u64) {
     io::write_all(STDOUT_FILENO, b" ");
     io::print_decimal(STDOUT_FILENO, times);
     io::write_all(STDOUT_FILENO, b" ");

@@ -329,19 +329,19 @@ fn partition_lines(rows: u64, times: u64, timed: bool) {
     let message = |x: u64| &messages[x as usize % TEXTS][..];
     let stamp = |x: u64| &message(x)[..message(x).len() - 2];
     line(&format!("read-stamp-{rows}"), times, timed, |x| read_stamp(unknown(&LAYOUT), partitions, stamp(x)).unwrap());
-    line(&format!("c-read-stamp-{rows}"), times, timed, |x| {
-        returned(host::read_stamp(layout.slices(), slices, stamp(x)))
-    });
     line(&format!("read-message-{rows}"), times, timed, |x| {
         read_message(unknown(&LAYOUT), partitions, message(x)).unwrap()
-    });
-    line(&format!("c-read-message-{rows}"), times, timed, |x| {
-        returned(host::read_message(layout.slices(), slices, message(x)))
     });
     line(&format!("print-stamp-{rows}"), times, timed, |x| {
         let mut buffer = [0; 32];
         let length = print_stamp(unknown(&LAYOUT), partitions, scaled(x, total), &mut buffer).unwrap();
         printed(length as u64, &buffer)
+    });
+    line(&format!("c-read-stamp-{rows}"), times, timed, |x| {
+        returned(host::read_stamp(layout.slices(), slices, stamp(x)))
+    });
+    line(&format!("c-read-message-{rows}"), times, timed, |x| {
+        returned(host::read_message(layout.slices(), slices, message(x)))
     });
     line(&format!("c-print-stamp-{rows}"), times, timed, |x| {
         let mut buffer = [0; 32];
