@@ -9,8 +9,8 @@ use bench_bytes::put_numbers;
 use bench_bytes::put_offsets;
 use bench_bytes::returned;
 use bench_partitions::Question;
+use bench_partitions::prepare;
 use bench_partitions::slots;
-use bench_partitions::ticks;
 use bench_partitions::total;
 use bench_report::LAST;
 use bench_report::layout;
@@ -39,7 +39,7 @@ fn bench_all(timed: bool, moduli: &[u8], offsets: &[u8]) {
     let mut starts = [0u64; MOST_ROWS];
     let mut ends = [0u64; MOST_ROWS];
     let mut slots = [0u8; slots::ALL];
-    fill(&mut starts, &mut ends, &mut slots, 1);
+    prepare(&mut starts, &mut ends, &mut slots, 1);
     let asked = often(timed, 5_000_000, 1_000);
     bench_texts(timed, moduli, offsets, &slots, asked);
     bench_rows(
@@ -123,8 +123,8 @@ fn bench_rows(
     requires { ⌜ (1 ≤ rows) × (rows < 10000) ⌝ }
     requires { ⌜ (rows ≤ length (now starts)) × (rows ≤ length (now ends)) ⌝ }
 {
-    fill(starts, ends, slots, rows);
-    ask_inner(
+    prepare(starts, ends, slots, rows);
+    bench_partitions::bench(
         timed,
         &starts[0..rows],
         &ends[0..rows],
@@ -144,30 +144,7 @@ fn bench_rows(
     );
 }
 
-fn fill(starts: &mut [u64], ends: &mut [u64], slots: &mut [u8], rows: usize)
-    requires { ⌜ (1 ≤ rows) × (rows < 10000) ⌝ }
-    requires { ⌜ (rows ≤ length (now starts)) × (rows ≤ length (now ends)) ⌝ }
-{
-    bench_partitions::fill(starts, ends, rows, ticks(rows as u64));
-    slots::fill(slots, &starts[0..rows], &ends[0..rows], total(rows as u64));
-}
-
-fn ask_inner(timed: bool, starts: &[u64], ends: &[u64], slots: &[u8], rows: u64, asked: u64)
-    requires { ⌜ (1 ≤ rows) × (rows < 10000) ⌝ }
-{
-    let total = total(rows);
-    let from = libc::clock();
-    let sum = bench_partitions::checksum(Question::Stamp, starts, ends, slots, total, asked);
-    table_line(b"read-stamp", rows, asked, sum, timed, from);
-    let from = libc::clock();
-    let sum = bench_partitions::checksum(Question::Message, starts, ends, slots, total, asked);
-    table_line(b"read-message", rows, asked, sum, timed, from);
-    let from = libc::clock();
-    let sum = bench_partitions::checksum(Question::Encoded, starts, ends, slots, total, asked);
-    table_line(b"print-stamp", rows, asked, sum, timed, from);
-}
-
-// The same of the C calls.
+// The C calls under the same partitions, in bytes.
 fn ask_bytes(
     timed: bool,
     moduli: &[u8],

@@ -6,6 +6,7 @@ use bench_report::layout;
 use bench_report::mixed;
 use bench_report::next;
 use bench_report::scaled;
+use bench_report::table_line;
 use rules::PrintAnswer;
 use rules::ReadAnswer;
 
@@ -20,8 +21,33 @@ pub enum Question {
     Encoded,
 }
 
+// Stamps and messages under these partitions.
+pub fn bench(timed: bool, starts: &[u64], ends: &[u64], slots: &[u8], rows: u64, asked: u64)
+    requires { ⌜ (1 ≤ rows) × (rows < 10000) ⌝ }
+{
+    let total = total(rows);
+    let from = libc::clock();
+    let sum = checksum(Question::Stamp, starts, ends, slots, total, asked);
+    table_line(b"read-stamp", rows, asked, sum, timed, from);
+    let from = libc::clock();
+    let sum = checksum(Question::Message, starts, ends, slots, total, asked);
+    table_line(b"read-message", rows, asked, sum, timed, from);
+    let from = libc::clock();
+    let sum = checksum(Question::Encoded, starts, ends, slots, total, asked);
+    table_line(b"print-stamp", rows, asked, sum, timed, from);
+}
+
+// The first `rows` of the lists become partitions, and the slots their messages.
+pub fn prepare(starts: &mut [u64], ends: &mut [u64], slots: &mut [u8], rows: usize)
+    requires { ⌜ (1 ≤ rows) × (rows < 10000) ⌝ }
+    requires { ⌜ (rows ≤ length (now starts)) × (rows ≤ length (now ends)) ⌝ }
+{
+    fill(starts, ends, rows, ticks(rows as u64));
+    slots::fill(slots, &starts[0..rows], &ends[0..rows], total(rows as u64));
+}
+
 // The ticks of each of so many partitions.
-pub fn ticks(rows: u64) -> u64
+fn ticks(rows: u64) -> u64
     requires { ⌜ (1 ≤ rows) × (rows < 10000) ⌝ }
     ensures { λ r. ⌜ (r < 4294967295) × (r * rows ≤ 3145727999) ⌝ }
 {
@@ -37,7 +63,7 @@ pub fn total(rows: u64) -> u64
 }
 
 // The first `rows` of the lists become partitions of so many ticks; one tick is left out before the next.
-pub fn fill(starts: &mut [u64], ends: &mut [u64], rows: usize, ticks: u64)
+fn fill(starts: &mut [u64], ends: &mut [u64], rows: usize, ticks: u64)
     requires { ⌜ (rows < 10000) × (ticks < 4294967295) ⌝ }
     requires { ⌜ (rows ≤ length (now starts)) × (rows ≤ length (now ends)) ⌝ }
 {
