@@ -23,7 +23,9 @@ fn examples() {
 
 #[test]
 fn checksums() {
-    let bench = Command::new(env!("CARGO_BIN_EXE_bench")).output().unwrap();
-    assert!(bench.status.success());
-    assert!(stored("bench", "stdout") == bench.stdout);
+    for (program, word) in [("bench", None), ("bench_host", Some("host"))] {
+        let bench = Command::new(env!("CARGO_BIN_EXE_bench")).args(word).output().unwrap();
+        assert!(bench.status.success());
+        assert!(stored(program, "stdout") == bench.stdout, "{}", program);
+    }
 }

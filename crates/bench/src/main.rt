@@ -1,7 +1,5 @@
 // The benchmark's questions, asked of the proved calls. Without an argument it asks few of each and prints their checksums; with
 // one it asks many and prints nanoseconds a call behind each checksum. The reference has the same questions.
-ghost use Prim.Native.Nat.{_≤_, _<_};
-ghost use lib.ListN.{length};
 use bench_report::often;
 
 const MOST_ROWS: usize = 10000;
@@ -12,16 +10,10 @@ fn main() {
     bench_stamps::fill(&mut messages);
     bench_stamps::bench(timed, &messages);
     bench_raw::bench(timed);
-    bench_segments(timed, &messages);
-    bench_kernel::bench(timed);
-    bench_c::bench(timed);
-}
-
-fn bench_segments(timed: bool, messages: &[u8]) {
     let mut counts = [0u64; MOST_ROWS];
     let mut times = [0i64; MOST_ROWS];
     let mut rates = [0u64; MOST_ROWS];
-    bench_rows(
+    bench_rows::bench(
         timed,
         &mut counts,
         &mut times,
@@ -31,7 +23,7 @@ fn bench_segments(timed: bool, messages: &[u8]) {
         b"time-of-1",
         b"count-at-1",
     );
-    bench_rows(
+    bench_rows::bench(
         timed,
         &mut counts,
         &mut times,
@@ -43,14 +35,14 @@ fn bench_segments(timed: bool, messages: &[u8]) {
     );
     bench_times::bench(
         timed,
-        messages,
+        &messages,
         &counts[0..100],
         &times[0..100],
         &rates[0..100],
         often(timed, 1_000_000, 100),
     );
     let asked = often(timed, 10_000, 100);
-    bench_rows(
+    bench_rows::bench(
         timed,
         &mut counts,
         &mut times,
@@ -61,37 +53,5 @@ fn bench_segments(timed: bool, messages: &[u8]) {
         b"count-at-10000",
     );
     bench_rows::bench_steps(timed, &counts, &times, &rates, asked);
-}
-
-// The inner calls, then the C calls, under the first `rows` of each list.
-fn bench_rows(
-    timed: bool,
-    counts: &mut [u64],
-    times: &mut [i64],
-    rates: &mut [u64],
-    rows: usize,
-    asked: u64,
-    time_name: &[u8],
-    count_name: &[u8],
-)
-    requires { ⌜ (1 ≤ rows) × (rows < 10001) ⌝ }
-    requires { ⌜ (rows ≤ length (now counts)) × (rows ≤ length (now times)) × (rows ≤ length (now rates)) ⌝ }
-{
-    bench_rows::bench(
-        timed,
-        counts,
-        times,
-        rates,
-        rows,
-        asked,
-        time_name,
-        count_name,
-    );
-    bench_c_times::bench(
-        timed,
-        &counts[0..rows],
-        &times[0..rows],
-        &rates[0..rows],
-        asked,
-    );
+    bench_kernel::bench(timed);
 }

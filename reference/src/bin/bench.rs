@@ -1,5 +1,6 @@
 //! The benchmark's questions, asked of the reference. Without a word it asks few of each and prints their checksums; with the
-//! word `time` it asks many and prints nanoseconds a call behind each checksum. The proved program `bench` does the same.
+//! word `time` it asks many and prints nanoseconds a call behind each checksum. The proved program `bench` does the same. With
+//! the word `host` in front it asks the questions of the proved program `bench_host`: those of the C calls.
 
 use std::fmt::Write;
 
@@ -26,6 +27,9 @@ const LAYOUT: Layout = Layout {
 };
 const LAST: u64 = 65_536 * 60 * 800 - 1;
 const TEXTS: usize = 256;
+
+/// How many segments, and how often they are asked where it is timed.
+const SEGMENTS: [(u64, u64); 3] = [(1, 5_000_000), (100, 1_000_000), (10_000, 10_000)];
 
 /// Pseudo-random numbers below 2^31.
 fn next(x: u64) -> u64 {
@@ -54,6 +58,17 @@ fn rows(rows: u64) -> Rows {
         count: (0..rows).map(|i| i * each).collect(),
         time: (0..rows).map(|i| (i * each * 21) as i64).collect(),
         rate: (0..rows).map(|i| 960_000_000 + i % 7).collect(),
+    }
+}
+
+impl Rows {
+    fn segments(&self) -> Segments<'_> {
+        Segments { count: &self.count, time: &self.time, rate: &self.rate }
+    }
+
+    /// The last time.
+    fn latest(&self) -> u64 {
+        self.time[self.time.len() - 1] as u64 + 20 * (LAST - self.count[self.count.len() - 1])
     }
 }
 
@@ -162,8 +177,27 @@ fn line(name: &str, times: u64, timed: bool, mut ask: impl FnMut(u64) -> u64) {
 }
 
 fn main() {
-    let timed = std::env::args().nth(1).as_deref() == Some("time");
-    let many = |timed_times: u64, times: u64| if timed { timed_times } else { times };
+    let mut words = std::env::args().skip(1).peekable();
+    let host = words.next_if_eq("host").is_some();
+    let timed = words.next().as_deref() == Some("time");
+    if host {
+        host_lines(timed);
+    } else {
+        lines(timed);
+    }
+}
+
+/// How often a question is asked.
+fn often(timed: bool, many: u64, few: u64) -> u64 {
+    if timed {
+        many
+    } else {
+        few
+    }
+}
+
+fn lines(timed: bool) {
+    let many = |timed_times: u64, times: u64| often(timed, timed_times, times);
     let partitions = Partitions { start: &[0, 0], end: &[LAST, LAST] };
     let one = Partitions { start: &[0], end: &[LAST] };
 
@@ -198,21 +232,10 @@ fn main() {
         });
     }
     line("microseconds", many(20_000_000, 1_000), timed, |x| microseconds(x as u32, (x % 1_000_000) as u32).unwrap());
-    for (names, n, times) in [
-        (["time-of-1", "count-at-1"], 1, 5_000_000),
-        (["time-of-100", "count-at-100"], 100, 1_000_000),
-        (["time-of-10000", "count-at-10000"], 10_000, 10_000),
-    ] {
+    for (n, times) in SEGMENTS {
         let rows = rows(n);
-        let segments = Segments { count: &rows.count, time: &rows.time, rate: &rows.rate };
-        let latest = rows.time[rows.time.len() - 1] as u64 + 20 * (LAST - rows.count[rows.count.len() - 1]);
-        line(names[0], many(times, 100), timed, |x| {
-            (time_of(unknown(&LAYOUT), one, segments, scaled(x, LAST)).unwrap() as u64) ^ (1 << 63)
-        });
-        line(names[1], many(times, 100), timed, |x| {
-            count_at(unknown(&LAYOUT), one, segments, scaled(x, latest) as i64).unwrap()
-        });
-        c_time_lines(n, &rows, latest, many(times, 100), timed);
+        let segments = rows.segments();
+        time_lines(["time-of", "count-at"], n, &rows, many(times, 100), timed);
         if n == 100 {
             line("stamp-time-100", many(times, 100), timed, |x| {
                 let at = (x as usize % TEXTS) * 16;
@@ -269,15 +292,37 @@ fn main() {
             }
         });
     }
+}
 
-    text_lines(many(5_000_000, 1_000), timed);
-    for (rows, times) in [(1, many(5_000_000, 1_000)), (100, many(1_000_000, 100)), (9_999, many(10_000, 100))] {
-        partition_lines(rows, times, timed);
+/// Count to time and time to count under these segments, one partition.
+fn time_lines(names: [&str; 2], n: u64, rows: &Rows, times: u64, timed: bool) {
+    let one = Partitions { start: &[0], end: &[LAST] };
+    let (segments, latest) = (rows.segments(), rows.latest());
+    line(&format!("{}-{n}", names[0]), times, timed, |x| {
+        (time_of(unknown(&LAYOUT), one, segments, scaled(x, LAST)).unwrap() as u64) ^ (1 << 63)
+    });
+    line(&format!("{}-{n}", names[1]), times, timed, |x| {
+        count_at(unknown(&LAYOUT), one, segments, scaled(x, latest) as i64).unwrap()
+    });
+}
+
+/// The C calls, each beside the inner call. `lines` has count to time and time to count too, so they have other names here.
+fn host_lines(timed: bool) {
+    text_lines(often(timed, 5_000_000, 1_000), timed);
+    for (rows, many, few) in [(1, 5_000_000, 1_000), (100, 1_000_000, 100), (9_999, 10_000, 100)] {
+        partition_lines(rows, often(timed, many, few), timed);
+    }
+    for (n, times) in SEGMENTS {
+        let rows = rows(n);
+        let times = often(timed, times, 100);
+        time_lines(["table-time-of", "table-count-at"], n, &rows, times, timed);
+        c_time_lines(n, &rows, times, timed);
     }
 }
 
 /// The C calls of count to time and time to count under the same segments, one partition.
-fn c_time_lines(n: u64, rows: &Rows, latest: u64, times: u64, timed: bool) {
+fn c_time_lines(n: u64, rows: &Rows, times: u64, timed: bool) {
+    let latest = rows.latest();
     let layout = LayoutLists::new();
     let (start, end) = (list(&[0]), list(&[LAST]));
     let partitions = PartitionSlices { starts: &start, ends: &end };
