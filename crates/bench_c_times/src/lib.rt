@@ -1,5 +1,5 @@
 // Count to time and time to count by the C calls, under one partition.
-ghost use Prim.Native.Nat.{_≤_, _<_};
+ghost use Prim.Native.Nat.{_<_};
 use bench_bytes::FIELDS;
 use bench_bytes::ZERO;
 use bench_bytes::fields;

@@ -1,12 +1,11 @@
 -- The greatest number that each inner call answers.
 use Prim.Native.Nat.{ℕ, _≤_}
-use mathlib.Core.Path.{_≡_, refl, sym, subst}
+use mathlib.Core.Path.{_≡_, refl, subst}
 use mathlib.Core.Bool.{Bool, true, false}
 use mathlib.Core.List.{List, [], _∷_}
 use mathlib.Core.Option.{Option, none, some}
 use lib.Dec.{leb}
 use lib.IntN.{ℤ}
-use lib.ListN.{length}
 use native.Mathlib.Nat.{le-trans}
 use native.Mathlib.Omega.{arith}
 use borrow.Author.Tests.{leb-true}
@@ -14,15 +13,14 @@ use Rattle.rules.specs.Limits.{largestCount, largestTotal}
 use Rattle.rules.specs.declared.Layout.{Layout}
 use Rattle.rules.specs.declared.Reading.{Reading}
 use Rattle.rules.specs.declared.CountAtTime.{CountAtTime}
-use Rattle.rules.specs.Answer.{Answer, answer, failsAt, unless, unlessAt, reading, countAtTime}
+use Rattle.rules.specs.Answer.{Answer, answer, failsAt, unless, unlessAt}
 use Rattle.rules.specs.Layout.{layoutOk, productOf, unitOf}
-use Rattle.rules.specs.Partitions.{Partitions, totalOf, partitionsFault, partitionsOk}
+use Rattle.rules.specs.Partitions.{Partitions, totalOf, partitionsFault}
 use Rattle.rules.specs.Segments.{Segments}
 use Rattle.rules.specs.Accepted.{accepted}
 use Rattle.rules.specs.Text.{Field, eachField, fieldsCount, bytesCount, parseText, readText, sumOf}
 use Rattle.rules.specs.Stamp.{readStamp}
 use Rattle.rules.specs.Message.{readMessage, acceptedMessage, textIn}
-use Rattle.rules.specs.Print.{countPrint, stampPrint, fitting, printCount, printStamp}
 use Rattle.rules.specs.Time.{notBeyond, countOn, countIn, countAt}
 use Rattle.rules.proofs.Answers.{payload, not-answer, unless-test, unless-rest, unless-at-none, unless-at-rest}
 use Rattle.rules.proofs.Accepted.{partitions-facts}

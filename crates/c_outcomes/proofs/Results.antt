@@ -1,10 +1,10 @@
 -- What each C call can give, from what the inner call can.
 use Prim.Native.Nat.{ℕ, zero, suc, _^_, _≤_, _<_}
 use mathlib.Core.Path.{_≡_, refl, sym, ap, subst, _∙_}
-use mathlib.Core.Bool.{Bool, true, false, true≢false}
+use mathlib.Core.Bool.{true, false, true≢false}
 use mathlib.Core.List.{List, [], _∷_}
 use lib.Dec.{leb, eqb}
-use lib.IntN.{ℤ, pos, negℤ}
+use lib.IntN.{pos, negℤ}
 use lib.ListN.{length, take}
 use native.Mathlib.Omega.{arith}
 use borrow.Author.Tests.{leb-true, ltb-true, eqb-true}
@@ -14,11 +14,10 @@ use Rattle.rules.specs.Limits.{mostFields}
 use Rattle.rules.specs.declared.Refusal.{Refusal}
 use Rattle.rules.specs.declared.TimeOfCount.{TimeOfCount}
 use Rattle.rules.specs.Answer.{Answer, answer, refused, unless, andThen}
-use Rattle.rules.specs.Layout.{layoutOk}
 use Rattle.rules.specs.Partitions.{Partitions}
-use Rattle.rules.specs.Print.{countPrint, stampPrint, fitting, printCount, printStamp, lengthPrinted}
+use Rattle.rules.specs.Print.{fitting, printCount, printStamp, lengthPrinted}
 use Rattle.rules.proofs.Answers.{payload, not-answer, unless-test, unless-rest, unless-at-none, unless-at-rest}
-use Rattle.outcomes.specs.Refusals.{OnlyRefuses, Refusals, timeOfRefusals}
+use Rattle.outcomes.specs.Refusals.{timeOfRefusals}
 use Rattle.outcomes.proofs.Refusals.{only-those}
 use Rattle.roundtrip.specs.RoundTrip.{TenSlots, longestCountPrint, longestStampPrint}
 use Rattle.roundtrip.proofs.Counts.{count-prints-short}
@@ -26,7 +25,7 @@ use Rattle.roundtrip.proofs.Stamps.{stamp-prints-short}
 use Rattle.c_rules.specs.Numbers.{numbers, timeBytes}
 use Rattle.c_rules.specs.Tables.{slots, fieldsGiven, layoutFrom}
 use Rattle.c_rules.specs.Calls.{returned, countRead, countGiven, timeWritten, zeroGiven}
-use Rattle.c_outcomes.specs.Results.{Gives, Results, Returnable, isNegative, isRefused, NegativeIsRefused}
+use Rattle.c_outcomes.specs.Results.{Gives, Results, Returnable, isNegative, NegativeIsRefused}
 use Rattle.c_outcomes.proofs.Answers.{text-small, stamp-small, message-small, count-small}
 
 -- the number in an answer, and the refusals as they are

@@ -1,12 +1,11 @@
 -- Numbers written as bytes and read again.
-use Prim.Native.Nat.{ℕ, zero, suc, _+_, _-_, _*_, _/_, _%_, _^_, _≤_, _<_, min}
-use mathlib.Core.Path.{_≡_, refl, sym, ap, _∙_}
+use Prim.Native.Nat.{ℕ, zero, suc, _+_, _-_, _*_, _/_, _%_, _^_, _≤_, _<_}
+use mathlib.Core.Path.{_≡_, refl, ap, _∙_}
 use mathlib.Core.Bool.{true}
 use mathlib.Core.List.{List, [], _∷_, _++_, map}
-use lib.Dec.{ltb, leb, eqb}
+use lib.Dec.{ltb}
 use lib.IntN.{ℤ, pos, negsuc}
 use lib.ListN.{length, length-append, take, drop}
-use lib.Signed.{mag}
 use native.Mathlib.Nat.{pow-suc}
 use native.Mathlib.Omega.{arith}
 use borrow.Author.Tests.{ltb-true, lt-ltb, le-ltb, le-leb, eq-eqb}
@@ -14,7 +13,7 @@ use Rattle.base.specs.Scans.{all}
 use Rattle.base.proofs.Tests.{and-first, and-second}
 use Rattle.rules.specs.Limits.{mostFields, lastDelimiter}
 use Rattle.c_rules.specs.Numbers.{little, bytesOf, numbersIn, eights, numbers, signedOf, unsignedOf, times, timeBytes}
-use Rattle.c_rules.specs.Tables.{slots, fieldsGiven, codeGiven, layoutFrom}
+use Rattle.c_rules.specs.Tables.{fieldsGiven, codeGiven}
 use Rattle.c_rules.proofs.Slots.{cut}
 use Rattle.c_outcomes.specs.SameNumbers.{asBytes, Words, IsTime, AllTimes, LayoutOf, SameNumbers}
 

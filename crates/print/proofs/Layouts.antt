@@ -1,5 +1,5 @@
 -- What an accepted layout gives to printing its fields.
-use Prim.Native.Nat.{ℕ, _≤_, _<_}
+use Prim.Native.Nat.{ℕ, _<_}
 use mathlib.Core.Path.{_≡_, sym, _∙_}
 use mathlib.Core.List.{List, map}
 use lib.ListN.{length, take}
