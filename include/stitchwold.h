@@ -5,7 +5,7 @@
  * A host keeps the bytes of its clock's tables and passes them with every call:
  *   layout      n, the number of fields; delimiter, a code: 1 '.', 2 ':', 3 '-', 4 ',', 5 blank; moduli; offsets
  *   partitions  starts; ends
- *   segments    counts, encoded; times, in nanoseconds; rates, in picoseconds per first-field count
+ *   segments    counts, encoded; times, in nanoseconds; rates, in picoseconds per step of the first field (MSF ticks)
  *
  * Their limits (MSF is the product of all moduli but the first):
  *   layout      n 1 to 10; moduli at least 1, their product at most 10^15, MSF at most 10^12; offsets at most 1,000
@@ -17,19 +17,29 @@
  * A list is a sequence of eight-byte numbers, low byte first; times are two's complement. It is passed as a pointer and
  * a length IN BYTES. Moduli and offsets have n numbers or more; those behind the n-th may be anything.
  *
- * Pointers may have any alignment, and may be NULL where the length is 0. Lists, text and message may overlap each
- * other; a buffer may overlap nothing else. Nothing is kept after the call. The calls have no state: any number of
- * threads may make them at once. A call takes at most 4 KiB of stack.
+ * Pointers may have any alignment, and may be NULL where the length is 0. Each must be good for its length: lists, text
+ * and message to read, a buffer to read and write; during a call no other thread may write to them. Lists, text and
+ * message may overlap each other; a buffer may overlap nothing else. Nothing is kept after the call. The calls have no
+ * state: any number of threads may make them at once. Measured, not proved: a call takes at most 4 KiB of stack.
  *
  * An answer is 0 or more. A refusal is the negative of its number below, and changes no buffer:
  *
  *   int64_t result = sclk_read_text(...);
  *   if (result == -SCLK_LAYOUT) ...
  *
- * Where more than one refusal applies, the first of these is given: a message's 21, 22, 23; the tables that the call
- * takes, 1, 2, 3; of a text 4, 5, 7, 6, then 9 or 8 of the fields from left to right, 9 of the sum, 10, 11; of a
- * number 14 for its range, 12, 13, 9, 14 for the answer; the buffer's 16. A slice that is not in eights, or moduli or
- * offsets of fewer than n numbers, are refused as the table that they belong to.
+ * Compare with a constant, as here, or -result with a variable: a variable of the enum may be unsigned, and is not to be
+ * negated.
+ *
+ * Where more than one refusal applies, the first of these is given:
+ *   read_text      1, 4, 5, 7, 6, then 9 or 8 of the fields from left to right, 9 of the sum
+ *   read_stamp     1, 2, 4, 5, 7, 6, then 9 or 8 of the fields from left to right, 9 of the sum, 10, 11
+ *   read_message   21, 22, 23, then as read_stamp
+ *   print_count    1, 9, 16
+ *   print_stamp    1, 2, 12, 16
+ *   time_of        1, 2, 3, 12, 13, 16
+ *   count_at       1, 2, 3, 14 of the time given, 13, 14 of the answer
+ * A list whose length is not a multiple of 8, and moduli or offsets of fewer than n numbers, are refused as the table
+ * that they belong to.
  */
 #ifndef STITCHWOLD_H
 #define STITCHWOLD_H
