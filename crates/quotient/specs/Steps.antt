@@ -1,21 +1,29 @@
 -- What the parts of a division say of their results.
 -- Assumes nothing.
 use mathlib.Core.Path.{_≡_}
-use Prim.Native.Nat.{ℕ, _+_, _*_, _%_, _^_, _≤_, _<_, max}
+use Prim.Native.Nat.{ℕ, _+_, _-_, _*_, _/_, _%_, _^_, _≤_, _<_, max}
 
 -- x divided by d: the quotient q, and the rest r
 pub record Divided (x d q r : ℕ) : Type 0 where
   pub whole : q * d + r ≡ x
   pub small : r < d
 
--- x, a word, has n binary digits: none for 0
-pub record Length (x n : ℕ) : Type 0 where
+-- x has n binary digits, none for 0, and n is at most w
+pub record Length (w x n : ℕ) : Type 0 where
   pub enough : x < 2 ^ n
   pub needed : 2 ^ n ≤ max 1 (2 * x)
-  pub word : n ≤ 64
+  pub most : n ≤ w
 
--- x is the digits of rest, a number below d, and the last `count` digits of word
-pub record Starts (x word d rest count : ℕ) : Type 0 where
-  pub whole : rest * 2 ^ count + word % 2 ^ count ≡ x
+-- the number that is divided by d, where the last k of the 64 digits of word are the quotient's so far, and its other digits stand behind those of rest
+unfoldable pub dividend : ℕ → ℕ → ℕ → ℕ → ℕ
+dividend d rest word k = (word % 2 ^ k * d + rest) * 2 ^ (64 - k) + word / 2 ^ k
+
+-- the division of x by d has come so far
+pub record Stands (x d rest word k : ℕ) : Type 0 where
+  pub whole : dividend d rest word k ≡ x
   pub small : rest < d
-  pub most : count ≤ 64
+  pub most : k ≤ 64
+
+-- the binary digit of word with the weight 2^k
+unfoldable pub digitAt : ℕ → ℕ → ℕ
+digitAt word k = word / 2 ^ k % 2

@@ -1,14 +1,13 @@
-// Quotients of a two-word product by one word: by the word's own division where its numbers fit a word, else by shift and
-// subtract. The divisor is at most 2^63, so that twice a rest fits a word.
+// Quotients of a two-word product by one word, worked out bit by bit: shift and subtract, and no division. The divisor is at most
+// 2^63, so that twice a rest fits a word.
 ghost use mathlib.Core.Path.{_≡_};
 ghost use mathlib.Core.Bool.{cond};
-ghost use Prim.Native.Nat.{_+_, _*_, _/_, _%_, _^_, _≤_, _<_};
+ghost use Prim.Native.Nat.{_+_, _*_, _^_, _≤_, _<_};
 ghost use lib.Dec.{eqb};
 ghost use Rattle.wide.specs.Wide.{value};
 ghost use Rattle.base.specs.Rounding.{roundDown, roundUp};
 ghost use Rattle.quotient.specs.Quotient.{fit};
-ghost use Rattle.quotient.specs.Steps.{Divided, Length, Starts};
-use wide::BASE;
+ghost use Rattle.quotient.specs.Steps.{Divided, Length, Stands, dividend, digitAt};
 use wide::Wide;
 use wide::mul;
 
@@ -24,10 +23,11 @@ struct Division {
     rest: u64,
 }
 
-// The digits of a number down to the last `count`, as one number, `rest`.
-struct Start {
+// A division under way. The last `known` digits of `word` are those of the quotient so far; its other digits stand behind `rest`.
+struct Step {
     rest: u64,
-    count: u32,
+    word: u64,
+    known: u32,
 }
 
 // `a * b / d`, rounded down.
@@ -69,108 +69,71 @@ fn divide(x: Wide, d: u64) -> Division
     requires { ⌜ (x .hi < d) × (d ≤ 2 ^ 63) ⌝ }
     ensures { λ r. ⌜ Divided (value x) d (r .quotient) (r .rest) ⌝ }
 {
-    let hi = x.hi;
-    let lo = x.lo;
-    if hi == 0 {
-        return by_word(lo, d);
-    }
-    if d <= BASE {
-        return by_halves(hi, lo, d);
-    }
-    let from = skip_zeros(hi, lo, d);
-    digits(from.rest, lo, d, from.count)
+    let from = skip_zeros(x.hi, x.lo, d);
+    digits(from.rest, from.word, d, from.known)
 }
 
-fn by_word(x: u64, d: u64) -> Division
-    requires { ⌜ 0 < d ⌝ }
-    ensures { λ r. ⌜ Divided x d (r .quotient) (r .rest) ⌝ }
-{
-    Division {
-        quotient: x / d,
-        rest: x % d,
-    }
-}
-
-// Two digits of the quotient in base 2^32, the upper one first.
-fn by_halves(hi: u64, lo: u64, d: u64) -> Division
-    requires { ⌜ (hi < d) × (d ≤ 2 ^ 32) ⌝ }
-    ensures { λ r. ⌜ Divided (hi * 2 ^ 64 + lo) d (r .quotient) (r .rest) ⌝ }
-{
-    let upper = half(hi, lo / BASE, d);
-    let lower = half(upper.rest, lo % BASE, d);
-    Division {
-        quotient: upper.quotient * BASE + lower.quotient,
-        rest: lower.rest,
-    }
-}
-
-// `rest` followed by one digit in base 2^32, by `d`: one such digit of the quotient.
-fn half(rest: u64, digit: u64, d: u64) -> Division
-    requires { ⌜ (rest < d) × (d ≤ 2 ^ 32) × (digit < 2 ^ 32) ⌝ }
-    ensures { λ r. ⌜ Divided (rest * 2 ^ 32 + digit) d (r .quotient) (r .rest) × (r .quotient < 2 ^ 32) ⌝ }
-{
-    by_word(rest * BASE + digit, d)
-}
-
-// Passes over the zeros in front of the quotient, by the lengths of the two numbers.
-fn skip_zeros(hi: u64, lo: u64, d: u64) -> Start
+// Passes over the zeros in front of the quotient: the lengths of the two numbers tell how many.
+fn skip_zeros(hi: u64, lo: u64, d: u64) -> Step
     requires { ⌜ (hi < d) × (d ≤ 2 ^ 63) ⌝ }
-    ensures { λ r. ⌜ Starts (hi * 2 ^ 64 + lo) lo d (r .rest) (r .count) ⌝ }
+    ensures { λ r. ⌜ Stands (hi * 2 ^ 64 + lo) d (r .rest) (r .word) (r .known) ⌝ }
 {
+    let n = length(hi, lo);
     let m = bit_length(d);
-    let n = bit_length(hi) + 1;
-    if m <= n {
-        return Start {
-            rest: hi,
-            count: 64,
+    if n < m {
+        return Step {
+            rest: lo,
+            word: 0,
+            known: 64,
         };
     }
-    let zeros = m - n;
-    Start {
+    if m + 63 <= n {
+        return Step {
+            rest: hi,
+            word: lo,
+            known: 0,
+        };
+    }
+    let zeros = m + 63 - n;
+    Step {
         rest: (hi << zeros) + (lo >> (64 - zeros)),
-        count: 64 - zeros,
+        word: lo << zeros,
+        known: zeros,
     }
 }
 
-// The digits of `rest` followed by the last `count` of `word`, by `d`: one digit of the quotient a turn.
-fn digits(rest: u64, word: u64, d: u64, count: u32) -> Division
-    requires { ⌜ (rest < d) × (d ≤ 2 ^ 63) × (count ≤ 64) ⌝ }
-    ensures { λ r. ⌜ Divided (rest * 2 ^ count + word % 2 ^ count) d (r .quotient) (r .rest) ⌝ }
+// One digit of the quotient a turn: a digit of the dividend leaves `w` at the top, and one of the quotient comes in below. `x` is the
+// rest with the leaving digit behind it; the next one is looked up a turn early, so that a turn waits for no shift of `w`.
+fn digits(rest: u64, word: u64, d: u64, known: u32) -> Division
+    requires { ⌜ (rest < d) × (d ≤ 2 ^ 63) × (known ≤ 64) ⌝ }
+    ensures { λ r. ⌜ Divided (dividend d rest word known) d (r .quotient) (r .rest) ⌝ }
 {
-    let mut left = rest;
-    let mut quotient: u64 = 0;
-    let mut k = count;
-    while 0 < k {
-        k = k - 1;
-        let by = digit(left + left + bit(word, k), d);
-        quotient = quotient + quotient + by.quotient;
-        left = by.rest;
+    let mut x = rest + rest + (word >> 63);
+    let mut w = word;
+    let mut k = known;
+    while k < 64 {
+        let next = bit(w, 62);
+        let by = digit(x, d);
+        w = (w << 1) + by.quotient;
+        x = by.rest + by.rest + next;
+        k = k + 1;
     }
     Division {
-        quotient,
-        rest: left,
+        quotient: w,
+        rest: x >> 1,
     }
 }
 
-// A number below `d + d` by `d`. The choice is by the sign of the difference, without a branch.
+// A number below `d + d` by `d`. The rest is chosen by the sign of the difference: so the compiler makes no branch.
 fn digit(x: u64, d: u64) -> Division
     requires { ⌜ (x < d + d) × (d ≤ 2 ^ 63) ⌝ }
     ensures { λ r. ⌜ Divided x d (r .quotient) (r .rest) ⌝ }
 {
     let difference = std::num::wrapping_sub_u64(x, d);
-    let less = difference >> 63;
     Division {
-        quotient: 1 - less,
-        rest: either(less, difference, x),
+        quotient: (d <= x) as u64,
+        rest: either(difference >> 63, difference, x),
     }
-}
-
-// The binary digit of `word` with the weight 2^k.
-fn bit(word: u64, k: u32) -> u64
-    requires { ⌜ k < 64 ⌝ }
-    ensures { λ r. ⌜ r ≡ word / 2 ^ k % 2 ⌝ }
-{
-    (word >> k) & 1
 }
 
 fn either(flag: u64, a: u64, b: u64) -> u64
@@ -179,9 +142,27 @@ fn either(flag: u64, a: u64, b: u64) -> u64
     if flag == 0 { a } else { b }
 }
 
-// How many binary digits `x` has: none for 0.
+// The binary digit of `word` with the weight 2^k.
+fn bit(word: u64, k: u32) -> u64
+    requires { ⌜ k < 64 ⌝ }
+    ensures { λ r. ⌜ r ≡ digitAt word k ⌝ }
+{
+    (word >> k) & 1
+}
+
+// How many binary digits a two-word number has: none for 0.
+fn length(hi: u64, lo: u64) -> u32
+    ensures { λ r. ⌜ Length 128 (hi * 2 ^ 64 + lo) r ⌝ }
+{
+    if hi == 0 {
+        return bit_length(lo);
+    }
+    64 + bit_length(hi)
+}
+
+// The same of one word.
 fn bit_length(x: u64) -> u32
-    ensures { λ r. ⌜ Length x r ⌝ }
+    ensures { λ r. ⌜ Length 64 x r ⌝ }
 {
     64 - u64::leading_zeros(x)
 }

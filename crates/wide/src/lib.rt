@@ -11,7 +11,7 @@ pub struct Wide {
 }
 
 // 2^32: a word is two digits in this base, and a product of two digits fits a word.
-pub const BASE: u64 = 4294967296;
+const BASE: u64 = 4294967296;
 
 // The upper word of `a * b`. It shares nothing with `low`: so each of the two compiles to one
 // multiplication.

@@ -1,4 +1,4 @@
-use Rattle.quotient.proofs.Zeros.{words-start, words-fit}
+use Rattle.quotient.proofs.Zeros.{no-zeros, all-zeros, some-zeros, rest-fits}
 use borrow.Author.Needs.{needs}
 use Rattle.quotient.proofs.skip_zeros.Statement.{statement}
 use Rattle.quotient.proofs.skip_zeros.Tie as tie
@@ -9,6 +9,9 @@ skip-zeros-spec =
     (tie.spec
     (λ c κs. search needs)
     (λ c κs. search needs)
+    (λ c. search (all-zeros, needs))
+    (λ c. search needs)
+    (λ c. search (no-zeros, needs))
     (λ c. search needs)
     (λ c. search needs)
     (λ c. search needs)
@@ -16,7 +19,7 @@ skip-zeros-spec =
     (λ c. search needs)
     (λ c. search needs)
     (λ c. search needs)
+    (λ c. search (rest-fits, needs))
     (λ c. search needs)
-    (λ c. search (words-fit, needs))
     (λ c. search needs)
-    (λ c. search (words-start, needs)))
+    (λ c. search (some-zeros, needs)))
