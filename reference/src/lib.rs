@@ -22,6 +22,7 @@ mod time;
 
 pub mod generate;
 pub mod host;
+pub mod quotient;
 pub mod random;
 pub mod script;
 pub mod tally;

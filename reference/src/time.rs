@@ -54,6 +54,6 @@ pub fn count_at(layout: &Layout, partitions: Partitions, segments: Segments, t: 
     Ok(count)
 }
 
-fn round_up(product: u128, divisor: u128) -> u128 {
+pub(crate) fn round_up(product: u128, divisor: u128) -> u128 {
     (product + divisor - 1) / divisor
 }
