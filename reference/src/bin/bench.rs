@@ -5,6 +5,7 @@
 use std::fmt::Write;
 
 use reference::host::{self, LayoutSlices, PartitionSlices, SegmentSlices};
+use reference::quotient::{down, down_by_bits, up, up_by_bits};
 use reference::{count_at, microseconds, print_count, print_stamp, read_kernel, read_message, read_stamp, read_text};
 use reference::{steps_back, time_of, Layout, Partitions, RawCounter, Segments};
 
@@ -26,6 +27,8 @@ const LAYOUT: Layout = Layout {
     delimiter: 2,
 };
 const LAST: u64 = 65_536 * 60 * 800 - 1;
+/// "1,000×MSF".
+const UNIT: u64 = 48_000_000;
 const TEXTS: usize = 256;
 
 /// How many segments, and how often they are asked where it is timed.
@@ -45,30 +48,33 @@ fn mixed(sum: u64, answer: u64) -> u64 {
     (sum * 31 + answer % 1_000_000_007) % 1_000_000_007
 }
 
-/// A table's segments: `rows` of them, as long as each other, with ticks of some 20 ns and a gap after each.
+/// A table's segments: `rows` of them, as long as each other, with ticks of some 20 ns, or `scale` times that, and a gap
+/// after each.
 struct Rows {
+    scale: u64,
     count: Vec<u64>,
     time: Vec<i64>,
     rate: Vec<u64>,
 }
 
-fn rows(rows: u64) -> Rows {
-    let each = LAST / rows;
-    Rows {
-        count: (0..rows).map(|i| i * each).collect(),
-        time: (0..rows).map(|i| (i * each * 21) as i64).collect(),
-        rate: (0..rows).map(|i| 960_000_000 + i % 7).collect(),
-    }
-}
-
 impl Rows {
+    fn new(rows: u64, scale: u64) -> Rows {
+        let each = LAST / rows;
+        Rows {
+            scale,
+            count: (0..rows).map(|i| i * each).collect(),
+            time: (0..rows).map(|i| (i * each * 21 * scale) as i64).collect(),
+            rate: (0..rows).map(|i| (960_000_000 + i % 7) * scale).collect(),
+        }
+    }
+
     fn segments(&self) -> Segments<'_> {
         Segments { count: &self.count, time: &self.time, rate: &self.rate }
     }
 
     /// The last time.
     fn latest(&self) -> u64 {
-        self.time[self.time.len() - 1] as u64 + 20 * (LAST - self.count[self.count.len() - 1])
+        self.time[self.time.len() - 1] as u64 + 20 * self.scale * (LAST - self.count[self.count.len() - 1])
     }
 }
 
@@ -232,10 +238,15 @@ fn lines(timed: bool) {
         });
     }
     line("microseconds", many(20_000_000, 1_000), timed, |x| microseconds(x as u32, (x % 1_000_000) as u32).unwrap());
+    quotient_lines("ms", 1, many(5_000_000, 1_000), timed);
+    quotient_lines("s", 1_000, many(5_000_000, 1_000), timed);
     for (n, times) in SEGMENTS {
-        let rows = rows(n);
+        let rows = Rows::new(n, 1);
         let segments = rows.segments();
-        time_lines(["time-of", "count-at"], n, &rows, many(times, 100), timed);
+        time_lines(["time-of", "count-at"], &n.to_string(), &rows, many(times, 100), timed);
+        if n == 1 {
+            time_lines(["time-of", "count-at"], "1-s", &Rows::new(n, 1_000), many(times, 100), timed);
+        }
         if n == 100 {
             line("stamp-time-100", many(times, 100), timed, |x| {
                 let at = (x as usize % TEXTS) * 16;
@@ -294,14 +305,26 @@ fn lines(timed: bool) {
     }
 }
 
+/// The quotient of count to time and that of time to count, by division and bit by bit, where a first-field count takes 0.96
+/// of this unit: ms with a scale of 1, s with one of 1,000.
+fn quotient_lines(unit: &str, scale: u64, times: u64, timed: bool) {
+    let rate = |x: u64| 960_000_000 * scale + x % 7;
+    let ticks = |x| scaled(x, LAST);
+    let elapsed = |x| scaled(x, 20 * LAST * scale);
+    line(&format!("quotient-up-{unit}"), times, timed, |x| up(rate(x), ticks(x), *unknown(&UNIT)));
+    line(&format!("quotient-up-{unit}-bits"), times, timed, |x| up_by_bits(rate(x), ticks(x), *unknown(&UNIT)));
+    line(&format!("quotient-down-{unit}"), times, timed, |x| down(elapsed(x), *unknown(&UNIT), rate(x)));
+    line(&format!("quotient-down-{unit}-bits"), times, timed, |x| down_by_bits(elapsed(x), *unknown(&UNIT), rate(x)));
+}
+
 /// Count to time and time to count under these segments, one partition.
-fn time_lines(names: [&str; 2], n: u64, rows: &Rows, times: u64, timed: bool) {
+fn time_lines(names: [&str; 2], table: &str, rows: &Rows, times: u64, timed: bool) {
     let one = Partitions { start: &[0], end: &[LAST] };
     let (segments, latest) = (rows.segments(), rows.latest());
-    line(&format!("{}-{n}", names[0]), times, timed, |x| {
+    line(&format!("{}-{table}", names[0]), times, timed, |x| {
         (time_of(unknown(&LAYOUT), one, segments, scaled(x, LAST)).unwrap() as u64) ^ (1 << 63)
     });
-    line(&format!("{}-{n}", names[1]), times, timed, |x| {
+    line(&format!("{}-{table}", names[1]), times, timed, |x| {
         count_at(unknown(&LAYOUT), one, segments, scaled(x, latest) as i64).unwrap()
     });
 }
@@ -313,9 +336,9 @@ fn host_lines(timed: bool) {
         partition_lines(rows, often(timed, many, few), timed);
     }
     for (n, times) in SEGMENTS {
-        let rows = rows(n);
+        let rows = Rows::new(n, 1);
         let times = often(timed, times, 100);
-        time_lines(["table-time-of", "table-count-at"], n, &rows, times, timed);
+        time_lines(["table-time-of", "table-count-at"], &n.to_string(), &rows, times, timed);
         c_time_lines(n, &rows, times, timed);
     }
 }
