@@ -10,6 +10,13 @@ fn main() {
     bench_stamps::fill(&mut messages);
     bench_stamps::bench(timed, &messages);
     bench_raw::bench(timed);
+    bench_quotient::bench(timed);
+    bench_tables(timed, &messages);
+    bench_kernel::bench(timed);
+}
+
+// The calls on times under one segment, under a hundred and under as many as there may be.
+fn bench_tables(timed: bool, messages: &[u8]) {
     let mut counts = [0u64; MOST_ROWS];
     let mut times = [0i64; MOST_ROWS];
     let mut rates = [0u64; MOST_ROWS];
@@ -23,6 +30,7 @@ fn main() {
         b"time-of-1",
         b"count-at-1",
     );
+    bench_rows::bench_seconds(timed, often(timed, 5_000_000, 100));
     bench_rows::bench(
         timed,
         &mut counts,
@@ -35,7 +43,7 @@ fn main() {
     );
     bench_times::bench(
         timed,
-        &messages,
+        messages,
         &counts[0..100],
         &times[0..100],
         &rates[0..100],
@@ -53,5 +61,4 @@ fn main() {
         b"count-at-10000",
     );
     bench_rows::bench_steps(timed, &counts, &times, &rates, asked);
-    bench_kernel::bench(timed);
 }

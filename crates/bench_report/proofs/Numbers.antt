@@ -8,7 +8,7 @@ use native.Mathlib.Omega.{arith}
 pub scaled-small : (x m : ℕ) → x < 2147483648 → x * m ≤ 2147483648 * m
 scaled-small x m h = mul-le-mul {n₁ = x} {m₁ = m} {n₂ = 2147483648} {m₂ = m} (omega arith) (omega arith)
 
-pub scaled-fits : (x most : ℕ) → x < 2147483648 → most < 1000000000000 → Fits w64 (x * (most / 65536))
+pub scaled-fits : (x most : ℕ) → x < 2147483648 → most < 100000000000000 → Fits w64 (x * (most / 65536))
 scaled-fits x most h k = omega (arith, scaled-small x (most / 65536) h)
 
 pub scaled-most : (x most : ℕ) → x < 2147483648 → x * (most / 65536) / 32768 ≤ most

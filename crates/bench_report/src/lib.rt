@@ -37,7 +37,7 @@ pub fn next(x: u64) -> u64
 
 // A number up to `most` made of one below 2^31.
 pub fn scaled(x: u64, most: u64) -> u64
-    requires { ⌜ (x < 2147483648) × (most < 1000000000000) ⌝ }
+    requires { ⌜ (x < 2147483648) × (most < 100000000000000) ⌝ }
     ensures { λ r. ⌜ r ≤ most ⌝ }
 {
     x * (most / 65_536) / 32_768

@@ -8,6 +8,7 @@ use bench_report::line;
 use bench_report::mixed;
 use bench_report::next;
 use bench_report::scaled;
+use bench_report::unknown_zero;
 use rules::CountAnswer;
 use rules::StepsBackAnswer;
 use rules::TimeAnswer;
@@ -39,6 +40,20 @@ pub fn bench(
     );
 }
 
+// One segment of ticks of 20 us: so a first-field count takes 0.96 s, as a spacecraft's does, and not 0.96 ms. Products need two words.
+pub fn bench_seconds(timed: bool, asked: u64) {
+    ask(
+        timed,
+        &[0],
+        &[0],
+        &[960_000_000_000 + unknown_zero()],
+        20_000 * LAST,
+        asked,
+        b"time-of-1-s",
+        b"count-at-1-s",
+    );
+}
+
 fn ask(
     timed: bool,
     counts: &[u64],
@@ -49,7 +64,7 @@ fn ask(
     time_name: &[u8],
     count_name: &[u8],
 )
-    requires { ⌜ most < 1000000000000 ⌝ }
+    requires { ⌜ most < 100000000000000 ⌝ }
 {
     let from = libc::clock();
     let sum = times_of(counts, times, rates, asked);
@@ -98,7 +113,7 @@ fn time_of(counts: &[u64], times: &[i64], rates: &[u64], encoded: u64) -> u64 {
 }
 
 fn counts_at(counts: &[u64], times: &[i64], rates: &[u64], asked: u64, most: u64) -> u64
-    requires { ⌜ most < 1000000000000 ⌝ }
+    requires { ⌜ most < 100000000000000 ⌝ }
 {
     let mut sum: u64 = 0;
     let mut x: u64 = 1;

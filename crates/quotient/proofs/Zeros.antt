@@ -37,9 +37,9 @@ module _ (w hi lo n : ℕ) where
       let e : hi * 2 ^ w + lo ≡ lo = omega (arith, ap (λ (x : ℕ). x * 2 ^ w) z, zero-mul (2 ^ w)) in
       rw e (record { enough = ln .enough; needed = ln .needed; most = omega (arith, ln .most) })
 
-  pub upper-length : (hi ≡ 0 → ⊥) → lo < 2 ^ w → Length w hi n → Length (w + w) (hi * 2 ^ w + lo) (w + n)
+  pub upper-length : (hi ≡ 0 → ⊥) → lo < 2 ^ w → Length w hi n → Length (w + w) (hi * 2 ^ w + lo) (n + w)
   upper-length some l ln =
-      let power : 2 ^ (w + n) ≡ 2 ^ n * 2 ^ w = pow-add 2 w n ∙ mul-comm (2 ^ w) (2 ^ n) in
+      let power : 2 ^ (n + w) ≡ 2 ^ n * 2 ^ w = pow-add 2 n w in
       let x = hi * 2 ^ w + lo in
       let twice : 2 ^ n * 2 ^ w ≤ 2 * hi * 2 ^ w = mul-le-mul-right {m = 2 ^ n} {n = 2 * hi} (2 ^ w) (omega (arith, ln .needed)) in
       record { enough = rw power (digits-lt (ln .enough) l); needed = rw power (omega (arith, twice, mul-assoc 2 hi (2 ^ w))); most = omega (arith, ln .most) }

@@ -154,10 +154,9 @@ fn bit(word: u64, k: u32) -> u64
 fn length(hi: u64, lo: u64) -> u32
     ensures { λ r. ⌜ Length 128 (hi * 2 ^ 64 + lo) r ⌝ }
 {
-    if hi == 0 {
-        return bit_length(lo);
-    }
-    64 + bit_length(hi)
+    let upper = bit_length(hi) + 64;
+    let lower = bit_length(lo);
+    if hi == 0 { lower } else { upper }
 }
 
 // The same of one word.

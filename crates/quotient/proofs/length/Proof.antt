@@ -8,7 +8,7 @@ length-spec =
     tie.close
     (tie.spec
     (λ c κs. search needs)
-    (λ c. search (lower-length 64, needs))
-    (λ c κs. search needs)
     (λ c. search needs)
+    (λ c κs. search needs)
+    (λ c. search (lower-length 64, needs))
     (λ c. search (upper-length 64, needs)))
