@@ -1,3 +1,5 @@
 pub mod Fit
-pub mod Steps
+pub mod Raised
+pub mod Turns
+pub mod Word
 pub mod Zeros

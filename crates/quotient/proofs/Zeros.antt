@@ -2,15 +2,15 @@
 -- Assumes nothing.
 use mathlib.Core.Path.{_≡_, sym, ap, _∙_}
 use Prim.Native.Nat.{ℕ, zero, suc, _+_, _-_, _*_, _/_, _%_, _^_, _≤_, _<_, max}
-use native.Mathlib.Nat.{pow-succ', mul-assoc, mul-comm, add-mul, lt-of-lt-of-le, lt-of-mul-lt-mul-right, mul-le-mul-right, div-add-mod', mod-eq-of-lt, mod-one, div-one, mul-mod-left, zero-mul, zero-add}
+use native.Mathlib.Nat.{pow-succ', mul-assoc, add-mul, lt-of-lt-of-le, lt-of-mul-lt-mul-right, mul-le-mul-right, div-add-mod', mod-eq-of-lt, mod-one, div-one, mul-mod-left, zero-mul, zero-add}
 use native.Mathlib.Omega.{arith}
 use lib.Arith.{digits-lt}
 use lib.Count.{leadingZeros, leading-length}
-use lib.Pow.{pow-add, pow-mono, pow-pos, shl-shr}
+use lib.Pow.{pow-add, pow-mono, shl-shr}
 use mir.Syntax.{w64}
 use mir.Val.{Fits}
 use Rattle.quotient.specs.Steps.{Length, Stands, dividend}
-use Rattle.quotient.proofs.Steps.{shifted-left}
+use Rattle.quotient.proofs.Word.{shifted-left}
 
 -- a power of 2 is 1 or even
 even : (m x : ℕ) → 2 ^ m ≤ 2 * x + 1 → 2 ^ m ≤ max 1 (2 * x)

@@ -27,3 +27,12 @@ pub record Stands (x d rest word k : ℕ) : Type 0 where
 -- the binary digit of word with the weight 2^k
 unfoldable pub digitAt : ℕ → ℕ → ℕ
 digitAt word k = word / 2 ^ k % 2
+
+-- a number was raised by 2^63 - d, which gave y: the number
+unfoldable pub lowered : ℕ → ℕ → ℕ
+lowered d y = y + d - 2 ^ 63
+
+-- y is a number below 2 d, raised so: y reaches 2^63 where the number reaches d
+pub record Raised (d y : ℕ) : Type 0 where
+  pub level : y + d ≡ lowered d y + 2 ^ 63
+  pub below : lowered d y < d + d

@@ -3,11 +3,10 @@
 ghost use mathlib.Core.Path.{_≡_};
 ghost use mathlib.Core.Bool.{cond};
 ghost use Prim.Native.Nat.{_+_, _*_, _^_, _≤_, _<_};
-ghost use lib.Dec.{eqb};
 ghost use Rattle.wide.specs.Wide.{value};
 ghost use Rattle.base.specs.Rounding.{roundDown, roundUp};
 ghost use Rattle.quotient.specs.Quotient.{fit};
-ghost use Rattle.quotient.specs.Steps.{Divided, Length, Stands, dividend, digitAt};
+ghost use Rattle.quotient.specs.Steps.{Divided, Length, Stands, Raised, dividend, digitAt, lowered};
 use wide::Wide;
 use wide::mul;
 
@@ -16,6 +15,9 @@ pub enum Quotient {
     Fits(u64),
     TooLarge,
 }
+
+// 2^63: half of what a word can hold.
+const HALF: u64 = 9223372036854775808;
 
 // A whole quotient, and the rest.
 struct Division {
@@ -102,44 +104,47 @@ fn skip_zeros(hi: u64, lo: u64, d: u64) -> Step
     }
 }
 
-// One digit of the quotient a turn: a digit of the dividend leaves `w` at the top, and one of the quotient comes in below. `x` is the
-// rest with the leaving digit behind it; the next one is looked up a turn early, so that a turn waits for no shift of `w`.
+// One digit of the quotient a turn: a digit of the dividend leaves `w` at the top, and one of the quotient comes in below. `y` is the
+// rest, with the leaving digit behind it, raised. The next digit is looked up a turn early, so that no turn waits for `w`.
 fn digits(rest: u64, word: u64, d: u64, known: u32) -> Division
     requires { ⌜ (rest < d) × (d ≤ 2 ^ 63) × (known ≤ 64) ⌝ }
     ensures { λ r. ⌜ Divided (dividend d rest word known) d (r .quotient) (r .rest) ⌝ }
 {
-    let mut x = rest + rest + (word >> 63);
+    let mut y = rest + rest + (word >> 63) + (HALF - d);
     let mut w = word;
     let mut k = known;
     while k < 64 {
         let next = bit(w, 62);
-        let by = digit(x, d);
+        let by = turn(y, next, d);
         w = (w << 1) + by.quotient;
-        x = by.rest + by.rest + next;
+        y = by.rest;
         k = k + 1;
     }
     Division {
         quotient: w,
-        rest: x >> 1,
+        rest: (y - (HALF - d)) >> 1,
     }
 }
 
-// A number below `d + d` by `d`. The rest is chosen by the sign of the difference: so the compiler makes no branch.
-fn digit(x: u64, d: u64) -> Division
-    requires { ⌜ (x < d + d) × (d ≤ 2 ^ 63) ⌝ }
-    ensures { λ r. ⌜ Divided x d (r .quotient) (r .rest) ⌝ }
+// A number below `d + d`, raised by 2^63 - d: so it reaches 2^63 where the number reaches `d`. The number followed by the digit `next`, by
+// `d + d`; the rest is raised likewise. The compiler makes no branch of it.
+fn turn(y: u64, next: u64, d: u64) -> Division
+    requires { ⌜ Raised d y × (d ≤ 2 ^ 63) × (next < 2) ⌝ }
+    ensures { λ r. ⌜ Divided (lowered d y + lowered d y + next) (d + d) (r .quotient) (lowered d (r .rest)) × Raised d (r .rest) ⌝ }
 {
-    let difference = std::num::wrapping_sub_u64(x, d);
+    let reached = HALF <= y;
+    let part = either(reached, std::num::wrapping_add_u64(HALF, d), HALF - d);
+    let twice = std::num::wrapping_add_u64(std::num::wrapping_add_u64(y, y), next);
     Division {
-        quotient: (d <= x) as u64,
-        rest: either(difference >> 63, difference, x),
+        quotient: reached as u64,
+        rest: std::num::wrapping_sub_u64(twice, part),
     }
 }
 
-fn either(flag: u64, a: u64, b: u64) -> u64
-    ensures { λ r. ⌜ r ≡ cond (eqb flag 0) a b ⌝ }
+fn either(flag: bool, a: u64, b: u64) -> u64
+    ensures { λ r. ⌜ r ≡ cond flag a b ⌝ }
 {
-    if flag == 0 { a } else { b }
+    if flag { a } else { b }
 }
 
 // The binary digit of `word` with the weight 2^k.
