@@ -27,14 +27,15 @@ def objdump(option, archive):
     return run.stdout.splitlines()
 
 
-def sections_of_symbols(archive):
-    """Where each symbol stands. A section is a symbol too, of its own name."""
-    where = {}
+def places_of_symbols(archive):
+    """The section and address of each symbol. A section is a symbol too, of its own name."""
+    places = {}
     for line in objdump("-t", archive):
-        found = re.match(r"[0-9a-f]{16} .{7} (\S+)\t[0-9a-f]{16}\s+(.+)", line)
-        if found:
-            where[found[2].removeprefix(".hidden ")] = found[1]
-    return where
+        found = re.match(r"([0-9a-f]{16}) .{7} (\S+)\t[0-9a-f]{16}\s+(.+)", line)
+        if found and found[2] != "*UND*":
+            symbol = found[3].removeprefix(".hidden ")
+            places.setdefault(symbol, set()).add((found[2], int(found[1], 16)))
+    return places
 
 
 def symbols_named(archive):
@@ -51,55 +52,73 @@ def symbols_named(archive):
 
 
 def instructions(archive):
-    """The instructions of each section that has code."""
+    """The instructions of each section that has code, by address. Sections of one name are one: all of it is gone through."""
     code, section = {}, None
     for line in objdump("-d --no-show-raw-insn", archive):
         heading = re.match(r"Disassembly of section (.+):", line)
-        instruction = re.match(r" *[0-9a-f]+:\t(.+)", line)
+        instruction = re.match(r" *([0-9a-f]+):\t(.+)", line)
         if heading:
             section = heading[1]
         elif instruction:
-            code.setdefault(section, []).append(instruction[1].strip())
+            code.setdefault(section, []).append((int(instruction[1], 16), instruction[2].strip()))
     return code
 
 
-def reached(call, where, named, code):
+def section_of(symbol, places):
+    """Where a symbol stands; None if the archive does not have it."""
+    found = places.get(symbol, set())
+    if len(found) > 1:
+        raise CannotTell(f"{symbol} stands in more than one place")
+    for section, _ in found:
+        if section.startswith("*"):
+            raise CannotTell(f"{symbol} stands in no section")
+        return section
+    return None
+
+
+def reached(call, places, named, code):
     """The sections that a call reaches, its own first."""
-    if where.get(call) not in code:
+    start = section_of(call, places)
+    if start is None or not any((start, address) in places[call] for address, _ in code.get(start, ())):
         raise CannotTell(f"{call} has no code")
-    found = [where[call]]
+    found = [start]
     for section in found:
         for symbol in sorted(named.get(section, ())):
-            target = where.get(symbol)
-            if target is None or target == "*UND*":
-                if symbol not in MEMORY:
-                    raise CannotTell(f"{section} reaches {symbol}, which is not in the archive")
-            elif target not in found:
+            target = section_of(symbol, places)
+            if target is None and symbol not in MEMORY:
+                raise CannotTell(f"{section} reaches {symbol}, which is not in the archive")
+            if target is not None and target not in found:
                 found.append(target)
-        for instruction in code.get(section, ()):
-            if re.search(r"\bcall\w*\s+\*", instruction):
-                raise CannotTell(f"{section} calls by a pointer: {instruction}")
+        for _, instruction in code.get(section, ()):
+            if re.search(r"\b(call|jmp)\w*\s+\*", instruction):
+                raise CannotTell(f"{section} goes on by a pointer: {instruction}")
     return found
+
+
+def divides(instruction):
+    """Prefixes may stand in front of its name, and a symbol's name behind it, in <>."""
+    return re.search(r"(^| )[a-z]*(div|fprem)", instruction.split("<")[0])
 
 
 def main(archive, *calls):
     if not calls:
         raise CannotTell("no call is named")
-    where, named, code = sections_of_symbols(archive), symbols_named(archive), instructions(archive)
-    divides = 0
+    places, named, code = places_of_symbols(archive), symbols_named(archive), instructions(archive)
+    status = 0
     for call in calls:
-        for section in reached(call, where, named, code):
-            found = [line for line in code.get(section, ()) if re.match(r"(\w+ )*\w*(div|fprem)", line)]
-            print(f"{call}: {section}: {len(code.get(section, ()))} instructions, {len(found)} divide")
+        for section in reached(call, places, named, code):
+            lines = [instruction for _, instruction in code.get(section, ())]
+            found = [line for line in lines if divides(line)]
+            print(f"{call}: {section}: {len(lines)} instructions, {len(found)} divide")
             for line in found:
                 print(f"    {line}")
-            divides += len(found)
-    return 1 if divides else 0
+                status = 1
+    return status
 
 
 if __name__ == "__main__":
     try:
         sys.exit(main(*sys.argv[1:]))
-    except (CannotTell, TypeError) as problem:
+    except Exception as problem:  # whatever it is, nothing is known
         print(f"host/divisions.py: cannot tell: {problem}", file=sys.stderr)
         sys.exit(2)

@@ -59,5 +59,5 @@ module _ (H x y d n t₁ t₂ h p r : ℕ) (level : y + d ≡ x + H) (below : x 
 pub turned-word : (y d n t₁ t₂ h p r : ℕ) → Raised d y → d ≤ 2 ^ 63 → n < 2 → y < 2 ^ 64 → t₁ ≡ (y + y) % 2 ^ 64 → t₂ ≡ (t₁ + n) % 2 ^ 64 → h ≡ (2 ^ 63 + d) % 2 ^ 64 → p ≡ cond (leb (2 ^ 63) y) h (2 ^ 63 - d) → (r + p) % 2 ^ 64 ≡ t₂ → r < 2 ^ 64 → Divided (lowered d y + lowered d y + n) (d + d) (boolByte (leb (2 ^ 63) y)) (lowered d r) × Raised d r
 unfolding lowered
 turned-word y d n t₁ t₂ h p r raised most digit fits twice more upper part rest word =
-    let t = turned (2 ^ 63) (lowered d y) y d n t₁ t₂ h p r (raised .level) (raised .below) most digit fits twice more upper part rest word in
-    (t .0, record { level = t .1; below = t .0 .small })
+    let t = turned (2 ^ 63) (lowered d y) y d n t₁ t₂ h p r (raised .exact) (raised .below) most digit fits twice more upper part rest word in
+    (t .0, record { exact = t .1; below = t .0 .small })

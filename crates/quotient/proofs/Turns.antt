@@ -51,7 +51,7 @@ module _ (d r w k : ℕ) (small : r < d) (word : w < 2 ^ 64) (most : k ≤ 64) (
   back = omega arith
 
   pub first-raised : Raised d (r + r + w / 2 ^ 63 + (2 ^ 63 - d))
-  first-raised = record { level = rw back (omega arith); below = rw back (number .below) }
+  first-raised = record { exact = rw back (omega arith); below = rw back (number .below) }
 
   pub first-turn : Turn d (dividend d r w k) (lowered d (r + r + w / 2 ^ 63 + (2 ^ 63 - d))) w k
   first-turn = rw back number
@@ -103,7 +103,7 @@ module _ (d X x w k q₁ x₁ n : ℕ) (turn : Turn d X x w k) (l : n < 2) (by :
 -- after the last turn
 module _ (d X y w k : ℕ) (raised : Raised d y) (top : d ≤ 2 ^ 63) (turn : Turn d X (lowered d y) w k) (end : 64 ≤ k) where
   number-back : y - (2 ^ 63 - d) ≡ lowered d y
-  number-back = omega (arith, raised .level)
+  number-back = omega (arith, raised .exact)
 
   pub last-turn : Divided X d w ((y - (2 ^ 63 - d)) / 2 ^ 1)
   unfolding dividend

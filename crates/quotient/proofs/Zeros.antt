@@ -9,7 +9,7 @@ use lib.Count.{leadingZeros, leading-length}
 use lib.Pow.{pow-add, pow-mono, shl-shr}
 use mir.Syntax.{w64}
 use mir.Val.{Fits}
-use Rattle.quotient.specs.Steps.{Length, Stands, dividend}
+use Rattle.quotient.specs.Steps.{Length, UnderWay, dividend}
 use Rattle.quotient.proofs.Word.{shifted-left}
 
 -- a power of 2 is 1 or even
@@ -54,7 +54,7 @@ module _ (hi lo z c : ℕ) where
   shifted-lt : (p : ℕ) → hi * 2 ^ (z + c) + lo < 2 ^ (p + c) → hi * 2 ^ z + lo / 2 ^ c < 2 ^ p
   shifted-lt p h = lt-of-mul-lt-mul-right (2 ^ c) (omega (arith, shifted, rw (pow-add 2 p c) at h))
 
-pub no-zeros : (hi lo d : ℕ) → hi < d → Stands (hi * 2 ^ 64 + lo) d hi lo 0
+pub no-zeros : (hi lo d : ℕ) → hi < d → UnderWay (hi * 2 ^ 64 + lo) d hi lo 0
 unfolding dividend
 no-zeros hi lo d less = record { whole = omega (arith, ap (λ (x : ℕ). x * d) (mod-one lo), div-one lo); small = less; most = omega arith }
 
@@ -64,7 +64,7 @@ module _ (hi lo d n m : ℕ) (less : hi < d) (top : d ≤ 2 ^ 63) (ln : Length 1
   first = first-digit 64 m d lm (omega arith)
 
   -- d is longer: the quotient is 0
-  pub all-zeros : n < m → Stands (hi * 2 ^ 64 + lo) d lo 0 64
+  pub all-zeros : n < m → UnderWay (hi * 2 ^ 64 + lo) d lo 0 64
   unfolding dividend
   all-zeros longer =
       let short : 2 ^ n ≤ 2 ^ (m - 1) = pow-mono (omega arith) in
@@ -96,7 +96,7 @@ module _ (hi lo d n m : ℕ) (less : hi < d) (top : d ≤ 2 ^ 63) (ln : Length 1
         let word : lo * 2 ^ z % 2 ^ 64 ≡ lo % 2 ^ c * 2 ^ z = rw f at (shifted-left lo c z) in
         rw word (rw (mul-mod-left (lo % 2 ^ c) (2 ^ z)) (rw (shl-shr (lo % 2 ^ c) z) (rw (zero-mul d) (rw (zero-add (hi * 2 ^ z + lo / 2 ^ c)) (rw e at (shifted hi lo z c))))))
 
-    pub some-zeros : Stands (hi * 2 ^ 64 + lo) d (hi * 2 ^ (m + 63 - n) % 2 ^ 64 + lo / 2 ^ (64 - (m + 63 - n))) (lo * 2 ^ (m + 63 - n) % 2 ^ 64) (m + 63 - n)
+    pub some-zeros : UnderWay (hi * 2 ^ 64 + lo) d (hi * 2 ^ (m + 63 - n) % 2 ^ 64 + lo / 2 ^ (64 - (m + 63 - n))) (lo * 2 ^ (m + 63 - n) % 2 ^ 64) (m + 63 - n)
     some-zeros = rw unwrapped (record { whole = whole; small = front; most = omega arith })
 
     pub rest-fits : Fits w64 (hi * 2 ^ (m + 63 - n) % 2 ^ 64 + lo / 2 ^ (64 - (m + 63 - n)))

@@ -11,15 +11,16 @@ pub record Divided (x d q r : ℕ) : Type 0 where
 -- x has n binary digits, none for 0, and n is at most w
 pub record Length (w x n : ℕ) : Type 0 where
   pub enough : x < 2 ^ n
+  -- and no fewer would do: x is at least 2^(n - 1), said so that it holds for 0 too
   pub needed : 2 ^ n ≤ max 1 (2 * x)
   pub most : n ≤ w
 
--- the number that is divided by d, where the last k of the 64 digits of word are the quotient's so far, and its other digits stand behind those of rest
+-- what is divided by d: the last k of the 64 digits of word are the quotient so far, and the digits above them are those of the dividend that still follow rest
 unfoldable pub dividend : ℕ → ℕ → ℕ → ℕ → ℕ
 dividend d rest word k = (word % 2 ^ k * d + rest) * 2 ^ (64 - k) + word / 2 ^ k
 
--- the division of x by d has come so far
-pub record Stands (x d rest word k : ℕ) : Type 0 where
+-- the division of x by d, with k digits of the quotient known
+pub record UnderWay (x d rest word k : ℕ) : Type 0 where
   pub whole : dividend d rest word k ≡ x
   pub small : rest < d
   pub most : k ≤ 64
@@ -28,11 +29,12 @@ pub record Stands (x d rest word k : ℕ) : Type 0 where
 unfoldable pub digitAt : ℕ → ℕ → ℕ
 digitAt word k = word / 2 ^ k % 2
 
--- a number was raised by 2^63 - d, which gave y: the number
+-- the number that became y when 2^63 - d was added to it
 unfoldable pub lowered : ℕ → ℕ → ℕ
 lowered d y = y + d - 2 ^ 63
 
--- y is a number below 2 d, raised so: y reaches 2^63 where the number reaches d
+-- y is a number below 2 d, with 2^63 - d added: so y is 2^63 or more exactly where the number is d or more
 pub record Raised (d y : ℕ) : Type 0 where
-  pub level : y + d ≡ lowered d y + 2 ^ 63
+  -- nothing is cut off by the - in lowered
+  pub exact : y + d ≡ lowered d y + 2 ^ 63
   pub below : lowered d y < d + d

@@ -6,7 +6,7 @@ ghost use Prim.Native.Nat.{_+_, _*_, _^_, _≤_, _<_};
 ghost use Rattle.wide.specs.Wide.{value};
 ghost use Rattle.base.specs.Rounding.{roundDown, roundUp};
 ghost use Rattle.quotient.specs.Quotient.{fit};
-ghost use Rattle.quotient.specs.Steps.{Divided, Length, Stands, Raised, dividend, digitAt, lowered};
+ghost use Rattle.quotient.specs.Steps.{Divided, Length, UnderWay, Raised, dividend, digitAt, lowered};
 use wide::Wide;
 use wide::mul;
 
@@ -25,7 +25,7 @@ struct Division {
     rest: u64,
 }
 
-// A division under way. The last `known` digits of `word` are those of the quotient so far; its other digits stand behind `rest`.
+// A division under way. The last `known` digits of `word` are the quotient so far; those above them are digits of the dividend, behind `rest`.
 struct Step {
     rest: u64,
     word: u64,
@@ -75,10 +75,10 @@ fn divide(x: Wide, d: u64) -> Division
     digits(from.rest, from.word, d, from.known)
 }
 
-// Passes over the zeros in front of the quotient: the lengths of the two numbers tell how many.
+// Passes over zeros in front of the quotient: the lengths of the two numbers tell how many.
 fn skip_zeros(hi: u64, lo: u64, d: u64) -> Step
     requires { ⌜ (hi < d) × (d ≤ 2 ^ 63) ⌝ }
-    ensures { λ r. ⌜ Stands (hi * 2 ^ 64 + lo) d (r .rest) (r .word) (r .known) ⌝ }
+    ensures { λ r. ⌜ UnderWay (hi * 2 ^ 64 + lo) d (r .rest) (r .word) (r .known) ⌝ }
 {
     let n = length(hi, lo);
     let m = bit_length(d);
@@ -105,7 +105,7 @@ fn skip_zeros(hi: u64, lo: u64, d: u64) -> Step
 }
 
 // One digit of the quotient a turn: a digit of the dividend leaves `w` at the top, and one of the quotient comes in below. `y` is the
-// rest, with the leaving digit behind it, raised. The next digit is looked up a turn early, so that no turn waits for `w`.
+// rest with the leaving digit behind it, raised (see `turn`). The next digit is looked up a turn early, so that no turn waits for `w`.
 fn digits(rest: u64, word: u64, d: u64, known: u32) -> Division
     requires { ⌜ (rest < d) × (d ≤ 2 ^ 63) × (known ≤ 64) ⌝ }
     ensures { λ r. ⌜ Divided (dividend d rest word known) d (r .quotient) (r .rest) ⌝ }
@@ -126,8 +126,8 @@ fn digits(rest: u64, word: u64, d: u64, known: u32) -> Division
     }
 }
 
-// A number below `d + d`, raised by 2^63 - d: so it reaches 2^63 where the number reaches `d`. The number followed by the digit `next`, by
-// `d + d`; the rest is raised likewise. The compiler makes no branch of it.
+// `y` is a number x below `d + d`, with 2^63 - d added: so its first bit tells whether x reaches `d`. Divides 2 x + `next` by `d + d`, which
+// has the same quotient as x by `d`; 2^63 - d is added to the rest too. The choice compiles to no branch.
 fn turn(y: u64, next: u64, d: u64) -> Division
     requires { ⌜ Raised d y × (d ≤ 2 ^ 63) × (next < 2) ⌝ }
     ensures { λ r. ⌜ Divided (lowered d y + lowered d y + next) (d + d) (r .quotient) (lowered d (r .rest)) × Raised d (r .rest) ⌝ }
