@@ -5,7 +5,7 @@
 
 Goes through each CALL and whatever of the archive it reaches, and prints what it went through and every instruction that divides.
 The exit status is 0 where nothing divides, 1 where something does, and 2 where it cannot tell: a call is not there or has no code,
-or the code reaches a function that is not in the archive, or one that only the running program knows.
+or the code reaches a function that is neither in the archive nor one of C's for memory, or goes on through a pointer.
 """
 
 import re
@@ -52,7 +52,7 @@ def symbols_named(archive):
 
 
 def instructions(archive):
-    """The instructions of each section that has code, by address. Sections of one name are one: all of it is gone through."""
+    """The instructions of each section that has code, by address. Sections of one name are taken together."""
     code, section = {}, None
     for line in objdump("-d --no-show-raw-insn", archive):
         heading = re.match(r"Disassembly of section (.+):", line)
@@ -96,7 +96,7 @@ def reached(call, places, named, code):
 
 
 def divides(instruction):
-    """Prefixes may stand in front of its name, and a symbol's name behind it, in <>."""
+    """Does this instruction divide? Prefixes may come before its name; a symbol's name in <> behind it is ignored."""
     return re.search(r"(^| )[a-z]*(div|fprem)", instruction.split("<")[0])
 
 

@@ -15,7 +15,7 @@ pub record Length (w x n : ℕ) : Type 0 where
   pub needed : 2 ^ n ≤ max 1 (2 * x)
   pub most : n ≤ w
 
--- what is divided by d: the last k of the 64 digits of word are the quotient so far, and the digits above them are those of the dividend that still follow rest
+-- the number that is divided by d: the last k of the 64 digits of word are the quotient so far, the others are the part of the dividend that comes after rest
 unfoldable pub dividend : ℕ → ℕ → ℕ → ℕ → ℕ
 dividend d rest word k = (word % 2 ^ k * d + rest) * 2 ^ (64 - k) + word / 2 ^ k
 

@@ -16,7 +16,7 @@ pub enum Quotient {
     TooLarge,
 }
 
-// 2^63: half of what a word can hold.
+// 2^63: the top bit of a word.
 const HALF: u64 = 9223372036854775808;
 
 // A whole quotient, and the rest.
@@ -104,8 +104,8 @@ fn skip_zeros(hi: u64, lo: u64, d: u64) -> Step
     }
 }
 
-// One digit of the quotient a turn: a digit of the dividend leaves `w` at the top, and one of the quotient comes in below. `y` is the
-// rest with the leaving digit behind it, raised (see `turn`). The next digit is looked up a turn early, so that no turn waits for `w`.
+// One digit of the quotient a turn: a digit of the dividend leaves `w` at the top, and one of the quotient comes in below. `y` is
+// twice the rest and the leaving digit, raised (see `turn`). The next digit is looked up a turn early, so that no turn waits for `w`.
 fn digits(rest: u64, word: u64, d: u64, known: u32) -> Division
     requires { ⌜ (rest < d) × (d ≤ 2 ^ 63) × (known ≤ 64) ⌝ }
     ensures { λ r. ⌜ Divided (dividend d rest word known) d (r .quotient) (r .rest) ⌝ }
@@ -126,8 +126,8 @@ fn digits(rest: u64, word: u64, d: u64, known: u32) -> Division
     }
 }
 
-// `y` is a number x below `d + d`, with 2^63 - d added: so its first bit tells whether x reaches `d`. Divides 2 x + `next` by `d + d`, which
-// has the same quotient as x by `d`; 2^63 - d is added to the rest too. The choice compiles to no branch.
+// `y` is a number x below `d + d`, with 2^63 - d added: so its top bit tells whether x reaches `d`. Divides 2 x + `next` by `d + d`, which
+// has the same quotient as x by `d`; the rest is returned with 2^63 - d added. The choice compiles to no branch.
 fn turn(y: u64, next: u64, d: u64) -> Division
     requires { ⌜ Raised d y × (d ≤ 2 ^ 63) × (next < 2) ⌝ }
     ensures { λ r. ⌜ Divided (lowered d y + lowered d y + next) (d + d) (r .quotient) (lowered d (r .rest)) × Raised d (r .rest) ⌝ }
