@@ -1,0 +1,21 @@
+-- Numbers in octets, high octet first, and numbers in bits.
+use Prim.Native.Nat.{ℕ, zero, suc, _+_, _*_, _/_, _%_, _^_}
+use mathlib.Core.List.{List, [], _∷_, _++_}
+
+-- the number whose octets are those of x and then these
+unfoldable pub bigFrom : ℕ → List ℕ → ℕ
+bigFrom x [] = x
+bigFrom x (b ∷ bs) = bigFrom (256 * x + b) bs
+
+-- the number that octets make, "high octet first"
+abbrev pub big : List ℕ → ℕ
+big s = bigFrom 0 s
+
+-- the n low octets of x, high octet first
+unfoldable pub octets : ℕ → ℕ → List ℕ
+octets zero x = []
+octets (suc n) x = octets n (x / 256) ++ ((x % 256) ∷ [])
+
+-- n bits of x, above the k lowest
+unfoldable pub bits : ℕ → ℕ → ℕ → ℕ
+bits k n x = x / 2 ^ k % 2 ^ n
