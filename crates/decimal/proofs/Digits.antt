@@ -10,7 +10,7 @@ use native.Mathlib.Omega.{arith}
 use Rattle.rules.specs.Print.{digitsUpTo, digitCount, lastDigits}
 use Rattle.roundtrip.proofs.Digits.{digits-enough, digits-needed, digits-below, pow-order, last-length}
 use Rattle.decimal.specs.Writing.{Room, Written}
-use Rattle.decimal.proofs.RightToLeft.{Left, left-all, left-room, left-next, left-nothing, byte-written}
+use Rattle.decimal.proofs.RightToLeft.{Left, left-all, left-byte, left-nothing}
 
 pub digit-count-is : (k x : ℕ) → 10 ^ k ≤ x → x < 10 ^ (k + 1) → digitCount x ≡ k + 1
 digit-count-is k x h l =
@@ -43,8 +43,7 @@ module _ (s : List ℕ) (x start end at : ℕ) (entry buffer : List ℕ) (l : Le
   unfolding lastDigits
   digit-next d e h =
       let w : at - start ≡ suc (at - 1 - start) = omega arith in
-      let split = rw (w, ← e) at l in
-      left-next _ (lastDigits (at - 1 - start) (x / 10)) (d ∷ []) _ at _ _ buffer _ split (byte-written d at buffer (left-room _ (lastDigits (at - 1 - start) (x / 10)) (d ∷ []) _ at _ buffer split))
+      left-byte s (lastDigits (at - 1 - start) (x / 10)) d end at entry buffer (rw (w, ← e) at l)
 
   pub digits-done : at ≤ start → Written s end at entry buffer
   unfolding lastDigits

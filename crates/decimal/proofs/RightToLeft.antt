@@ -1,6 +1,6 @@
 -- A text written into a buffer from right to left, part by part.
 --     put-nothing, put-byte, put-front, put-length, put-append     bytes in a buffer
---     left-all, left-room, left-next, left-done, left-nothing      what of a text is left to write
+--     left-all, left-room, left-next, left-byte, left-done, left-nothing      what of a text is left to write
 --     written-length, written-append, written-cons, byte-written   a text that is written
 use Prim.Native.Nat.{ℕ, _+_, _-_, _≤_, _<_}
 use mathlib.Core.Path.{_≡_, refl, sym, _∙_}
@@ -101,3 +101,7 @@ written-cons x s = written-append (x ∷ []) s
 
 pub byte-written : (x end : ℕ) (b : List ℕ) → Room (x ∷ []) end b → Written (x ∷ []) end (end - 1) b (set b (end - 1) x)
 byte-written x end b r = record { ends = omega (arith, r .before); bytes = sym (put-byte x (end - 1) b (omega (arith, r .before))) }
+
+-- the last byte of what is left
+pub left-byte : (s t : List ℕ) (x end at : ℕ) (entry buffer : List ℕ) → Left s (t ++ (x ∷ [])) end at entry buffer → Left s t end (at - 1) entry (set buffer (at - 1) x)
+left-byte s t x end at entry buffer l = left-next s t (x ∷ []) end at (at - 1) entry buffer _ l (byte-written x at buffer (left-room s t (x ∷ []) end at entry buffer l))
