@@ -39,7 +39,8 @@ pub fn number_at(s: &[u8], at: usize, n: usize) -> u64
     x
 }
 
-fn wide(x: u8) -> u64
+// An octet as a word.
+pub fn wide(x: u8) -> u64
     ensures { λ r. ⌜ (r ≡ x) × (r < 256) ⌝ }
 {
     x as u64

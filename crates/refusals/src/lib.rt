@@ -75,7 +75,7 @@ pub fn too_large(at: usize) -> Refusal
     }
 }
 
-// A count to print.
+// A count to print, or to write as a packet's time.
 pub const COUNT_TOO_LARGE: Refusal = Refusal {
     number: 9,
     place: Place::None,
@@ -149,12 +149,25 @@ pub const WRONG_DISTANCE: Refusal = Refusal {
     place: Place::None,
 };
 
-// Of the second satellite: microseconds over 999,999; a reading of its counter before any accepted reset.
+// Of the second satellite: microseconds over 999,999.
 pub const TOO_MANY_MICROSECONDS: Refusal = Refusal {
     number: 24,
     place: Place::None,
 };
 
+// Of a packet or a dump: another length, a time past the data, too many data octets, a tail too long; another version, time code or
+// form, or a field out of range.
+pub const PACKET_LENGTH: Refusal = Refusal {
+    number: 25,
+    place: Place::None,
+};
+
+pub const PACKET_FORM: Refusal = Refusal {
+    number: 26,
+    place: Place::None,
+};
+
+// Of the second satellite: a reading of its counter before any accepted reset.
 pub const NEVER_RESET: Refusal = Refusal {
     number: 27,
     place: Place::None,

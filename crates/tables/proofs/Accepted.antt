@@ -56,7 +56,7 @@ module _ (l : Layout) (p : Partitions) where
     same : found ≡ b
     same = payload (unless-at-rest 2 (partitionsFault (productOf l) p) _ b second)
 
-    facts-behind : StampsFacts l p b
+    pub facts-behind : StampsFacts l p b
     facts-behind =
         let good = layout-facts l (unless-test 1 (layoutOk l) _ b two) in
         let spans = partitions-facts (productOf l) p (rw (unless-at-none 2 (partitionsFault (productOf l) p) _ b second)) in
@@ -68,7 +68,7 @@ module _ (l : Layout) (p : Partitions) where
           numbers = rw (← same) (record { divides = unit-facts l good; small = spans .total });
         }
 
-    behind : {A : Type 0} (x a : Answer A) → x ≡ a → x ≡ acceptedStamps l p a
+    pub behind : {A : Type 0} (x a : Answer A) → x ≡ a → x ≡ acceptedStamps l p a
     behind x a q =
         passed 1 (layoutOk l) (unlessAt 2 (partitionsFault (productOf l) p) a) x (unless-test 1 (layoutOk l) _ b two)
         (passed-at 2 (partitionsFault (productOf l) p) a x (unless-at-none 2 (partitionsFault (productOf l) p) _ b second) q)
