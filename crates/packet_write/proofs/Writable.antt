@@ -1,0 +1,73 @@
+-- The ranges of what a packet is written from, test by test.
+use Prim.Native.Nat.{ℕ, _^_, _≤_, _<_}
+use mathlib.Core.Path.{_≡_, sym}
+use mathlib.Core.Bool.{true, false, and-true}
+use lib.Dec.{leb}
+use borrow.Author.Tests.{eq-eqb, ne-eqb, le-leb, lt-leb, leb-true}
+use Rattle.base.specs.Scans.{allOf}
+use Rattle.base.proofs.Tests.{all-of-head, all-of-tail}
+use Rattle.packet_rules.specs.declared.PacketHeader.{PacketHeader}
+use Rattle.packet_rules.specs.declared.TimeOctets.{TimeOctets}
+use Rattle.packet_rules.specs.Write.{writable}
+use Rattle.packet_write.specs.Ready.{OctetsFacts}
+
+module _ (n : ℕ) where
+  pub power-0 : n ≡ 0 → 1 ≡ 256 ^ n
+  power-0 h = rw h
+
+  pub power-1 : n ≡ 1 → 256 ≡ 256 ^ n
+  power-1 h = rw h
+
+  pub power-2 : n ≡ 2 → 65_536 ≡ 256 ^ n
+  power-2 h = rw h
+
+  pub power-3 : n ≡ 3 → 16_777_216 ≡ 256 ^ n
+  power-3 h = rw h
+
+module _ (h : PacketHeader) (o : TimeOctets) (m : ℕ) where
+  pub no-coarse : o .coarse < 1 → false ≡ writable h o m
+  unfolding writable allOf
+  no-coarse x = rw (lt-leb 1 (o .coarse) x)
+
+  module _ (a : 1 ≤ o .coarse) where
+    pub many-coarse : 4 < o .coarse → false ≡ writable h o m
+    unfolding writable allOf
+    many-coarse x = rw (le-leb 1 (o .coarse) a, lt-leb (o .coarse) 4 x)
+
+    module _ (b : o .coarse ≤ 4) where
+      pub many-fine : 3 < o .fine → false ≡ writable h o m
+      unfolding writable allOf
+      many-fine x = rw (le-leb 1 (o .coarse) a, le-leb (o .coarse) 4 b, lt-leb (o .fine) 3 x)
+
+      module _ (d : o .fine ≤ 3) (w : ℕ) (ew : w ≡ 256 ^ o .fine) where
+        pub another-modulus : (m ≡ w → ⊥) → false ≡ writable h o m
+        unfolding writable allOf
+        another-modulus x = rw (le-leb 1 (o .coarse) a, le-leb (o .coarse) 4 b, le-leb (o .fine) 3 d, ← ew, ne-eqb m w x)
+
+        module _ (e : m ≡ w) where
+          pub another-kind : 1 < h .kind → false ≡ writable h o m
+          unfolding writable allOf
+          another-kind x = rw (le-leb 1 (o .coarse) a, le-leb (o .coarse) 4 b, le-leb (o .fine) 3 d, ← ew, eq-eqb m w e, lt-leb (h .kind) 1 x)
+
+          module _ (f : h .kind ≤ 1) where
+            pub large-apid : 2_047 < h .apid → false ≡ writable h o m
+            unfolding writable allOf
+            large-apid x = rw (le-leb 1 (o .coarse) a, le-leb (o .coarse) 4 b, le-leb (o .fine) 3 d, ← ew, eq-eqb m w e, le-leb (h .kind) 1 f, lt-leb (h .apid) 2_047 x)
+
+            module _ (g : h .apid ≤ 2_047) where
+              pub large-flags : 3 < h .flags → false ≡ writable h o m
+              unfolding writable allOf
+              large-flags x =
+                  rw (le-leb 1 (o .coarse) a, le-leb (o .coarse) 4 b, le-leb (o .fine) 3 d, ← ew, eq-eqb m w e, le-leb (h .kind) 1 f, le-leb (h .apid) 2_047 g, lt-leb (h .flags) 3 x)
+
+              pub by-sequence : h .flags ≤ 3 → leb (h .sequence) 16_383 ≡ writable h o m
+              unfolding writable allOf
+              by-sequence x =
+                  rw (le-leb 1 (o .coarse) a, le-leb (o .coarse) 4 b, le-leb (o .fine) 3 d, ← ew, eq-eqb m w e, le-leb (h .kind) 1 f, le-leb (h .apid) 2_047 g, le-leb (h .flags) 3 x)
+                  (sym (and-true (leb (h .sequence) 16_383)))
+
+  pub writable-octets : writable h o m ≡ true → OctetsFacts o
+  unfolding writable
+  writable-octets t =
+      let t1 = all-of-tail _ _ t in
+      record { some-coarse = leb-true 1 (o .coarse) (all-of-head _ _ t); coarse = leb-true (o .coarse) 4 (all-of-head _ _ t1); fine = leb-true (o .fine) 3 (all-of-head _ _ (all-of-tail _ _ t1)) }
