@@ -21,7 +21,7 @@ use Rattle.roundtrip.proofs.Stamps.{stamp-reads-back}
 abbrev pub frontAfter : Answer (List ℕ) → List ℕ → ℕ → List ℕ
 frontAfter r buffer n = take n (bufferAfter r buffer)
 
-front : (r : Answer (List ℕ)) (buffer : List ℕ) (n : ℕ) → lengthPrinted r ≡ answer n → r ≡ answer (frontAfter r buffer n)
+pub front : (r : Answer (List ℕ)) (buffer : List ℕ) (n : ℕ) → lengthPrinted r ≡ answer n → r ≡ answer (frontAfter r buffer n)
 unfolding lengthPrinted bufferAfter
 front (answer s) buffer n h = let e : n ≡ length s = cc in rw (e, take-append-seam)
 front (refused k) buffer n h = absurd (not-answer h)

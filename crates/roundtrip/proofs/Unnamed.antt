@@ -10,7 +10,7 @@ use lib.ListN.{length, getD}
 use borrow.Author.Tests.{le-leb, leb-true, ne-eqb}
 use Rattle.base.specs.Scans.{all}
 use Rattle.base.proofs.Tests.{not-both, and-both, and-first, and-second}
-use Rattle.base.proofs.Scans.{nothing, First, first-is, first-none, first-or}
+use Rattle.base.proofs.Scans.{nothing, first-is, first-none, first-or}
 use Rattle.rules.specs.Limits.{longestText}
 use Rattle.rules.specs.Answer.{answer, refuse, unless, unlessAt, andThen, reading}
 use Rattle.rules.specs.declared.Layout.{Layout}
@@ -24,14 +24,6 @@ use Rattle.rules.proofs.Answers.{not-answer, unless-test, unless-rest, unless-a
 use Rattle.roundtrip.proofs.Fields.{all-allowed}
 
 module _ (p : Partitions) (c : ℕ) where
-  pub encode-first : (i : ℕ) → First (holds p c) (partitionsIn p) i → encode p (unnamed (reading c)) ≡ answer (reading (encodedIn p c i))
-  unfolding encode encodeFirst encodeFound andThen
-  encode-first i f = rw (first-is (holds p c) (partitionsIn p) i f)
-
-  pub encode-none : ((i : ℕ) → i < partitionsIn p → holds p c i ≡ false) → encode p (unnamed (reading c)) ≡ refuse 11
-  unfolding encode encodeFirst encodeFound andThen
-  encode-none f = rw (first-none (holds p c) (partitionsIn p) f)
-
   pub holds-fact : (i : ℕ) → i < partitionsIn p → holds p c i ≡ true → Holds p c i
   unfolding holds
   holds-fact i b h =
@@ -44,14 +36,23 @@ module _ (p : Partitions) (c : ℕ) where
   holds-test i w = and-both (le-leb _ _ (w .from)) (le-leb _ _ (w .to))
 
   -- encoding without a partition answers by the first that holds the count, or is refused where none does
-  pub encode-or :
+  pub first-or-none : ((i : ℕ) × FirstToHold p c i × (encodeFirst p c ≡ answer (encodedIn p c i))) ⊎ (NoneHolds p c × (encodeFirst p c ≡ refuse 11))
+  unfolding encodeFirst encodeFound
+  first-or-none =
+      ⊎-elim
+      (λ w. inl (
+        w .0,
+        record { it = holds-fact (w .0) (w .1 .below) (w .1 .holds); earlier = λ j l k. not-both (holds-test j k) (w .1 .before j l) },
+        rw (first-is (holds p c) (partitionsIn p) (w .0) (w .1)),
+      ))
+      (λ f. inr ((λ i k. not-both (holds-test i k) (f i (k .there))), rw (first-none (holds p c) (partitionsIn p) f)))
+      (first-or (holds p c) (partitionsIn p))
+
+  encode-or :
       ((i : ℕ) × FirstToHold p c i × (encode p (unnamed (reading c)) ≡ answer (reading (encodedIn p c i))))
       ⊎ (NoneHolds p c × (encode p (unnamed (reading c)) ≡ refuse 11))
-  encode-or =
-      ⊎-elim
-      (λ w. inl (w .0, record { it = holds-fact (w .0) (w .1 .below) (w .1 .holds); earlier = λ j l k. not-both (holds-test j k) (w .1 .before j l) }, encode-first (w .0) (w .1)))
-      (λ f. inr ((λ i k. not-both (holds-test i k) (f i (k .there))), encode-none f))
-      (first-or (holds p c) (partitionsIn p))
+  unfolding encode andThen
+  encode-or = ⊎-elim (λ w. inl (w .0, w .1, rw (w .2))) (λ w. inr (w .0, rw (w .1))) first-or-none
 
 no-slash : (s : List ℕ) → all isAllowed s ≡ true → slashIn s ≡ none
 unfolding slashIn

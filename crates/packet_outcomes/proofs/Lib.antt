@@ -1,0 +1,4 @@
+-- The theorems of specs/, and the laws that lead to them.
+pub mod Octets
+pub mod Header
+pub mod Written
