@@ -3,6 +3,7 @@ use Prim.Native.Nat.{ℕ, _+_, _*_, _/_, _%_, _^_, _≤_, _<_}
 use mathlib.Core.Path.{_≡_, refl, ap}
 use mathlib.Core.Bool.{true}
 use mathlib.Core.List.{List, _++_}
+use lib.Dec.{leb, eqb}
 use lib.ListN.{length, length-append, take, drop}
 use lib.Seq.{take-at, drop-at, drop-drop}
 use borrow.Author.Tests.{le-leb, eq-eqb}
@@ -44,19 +45,29 @@ same-octets o q c f = pairs c f
     pairs : {a b a' b' : ℕ} → a ≡ a' → b ≡ b' → _≡_ {A = TimeOctets} (record { coarse = a; fine = b }) (record { coarse = a'; fine = b' })
     pairs p q = rw (p, q)
 
+-- what reading finds in the bytes s, for a modulus m
+pub record Found (h : PacketHeader) (o : TimeOctets) (c m : ℕ) (s : List ℕ) : Type 0 where
+  pub whole : eqb (length s) (packetLength s) ≡ true
+  pub form : formOk s ≡ true
+  pub within : leb (timeEnd (octetsIn s)) (length s) ≡ true
+  pub header : headerIn s ≡ h
+  pub octets : octetsIn s ≡ o
+  pub end : timeEnd (octetsIn s) ≡ timeEnd o
+  pub ticks : ticksIn m (octetsIn s) s ≡ c
+
 module _ (h : PacketHeader) (o : TimeOctets) (c : ℕ) (d : List ℕ) (r : InRange h o) where
   abbrev s : List ℕ
   s = packetBytes h o c d
 
-  pub header-read : headerIn s ≡ h
+  header-read : headerIn s ≡ h
   unfolding packetBytes octets wordAt bigFrom bits
   header-read = same-header _ h (omega arith) (omega arith) (omega arith) (omega arith)
 
-  pub octets-read : octetsIn s ≡ o
+  octets-read : octetsIn s ≡ o
   unfolding packetBytes octets wordAt bigFrom bits
   octets-read = same-octets _ o (omega arith) (omega arith)
 
-  pub form-right : formOk s ≡ true
+  form-right : formOk s ≡ true
   unfolding packetBytes octets wordAt bigFrom bits formOk allOf
   form-right =
       and-both (eq-eqb (version s) 0 (omega arith))
@@ -98,19 +109,18 @@ module _ (h : PacketHeader) (o : TimeOctets) (c : ℕ) (d : List ℕ) (r : InRan
       (all-cons isOctet (pFieldOf o) _ (le-leb (pFieldOf o) 255 (omega arith))
       (all-append isOctet coarse (fine ++ d) (all-octets (o .coarse) _) (all-append isOctet fine d (all-octets (o .fine) c) g)))))
 
-  module _ (few : dataOctets o d ≤ mostDataOctets) where
-    pub length-right : length s ≡ packetLength s
+  -- data that the length field can say, and a count that the octets hold, for the modulus that they count in
+  module _ (few : dataOctets o d ≤ mostDataOctets) (m : ℕ) (right : m ≡ 256 ^ o .fine) (held : c / 256 ^ o .fine < 256 ^ o .coarse) where
+    length-right : length s ≡ packetLength s
     unfolding packetBytes octets wordAt bigFrom
     length-right = omega (arith, length-bytes)
 
-    pub time-within : timeEnd (octetsIn s) ≤ length s
-    time-within = omega (arith, ap timeEnd octets-read, length-bytes)
+    end-right : timeEnd (octetsIn s) ≡ timeEnd o
+    end-right = ap timeEnd octets-read
 
-  -- the time of a count that its octets hold, for the modulus that they count in
-  module _ (m : ℕ) (right : m ≡ 256 ^ o .fine) (held : c / 256 ^ o .fine < 256 ^ o .coarse) where
-    pub ticks-read : ticksIn m o s ≡ c
+    ticks-right : ticksIn m o s ≡ c
     unfolding ticksIn ticks roundDown
-    ticks-read =
+    ticks-right =
         let high : take (o .coarse) (drop timeStart s) ≡ coarse = rw behind (take-at coarse (fine ++ d) (o .coarse) coarse-length) in
         let low : take (o .fine) (drop (timeStart + o .coarse) s) ≡ fine = rw behind-coarse (take-at fine d (o .fine) fine-length) in
         rw (
@@ -122,3 +132,15 @@ module _ (h : PacketHeader) (o : TimeOctets) (c : ℕ) (d : List ℕ) (r : InRan
           mul-div-cancel (c / 256 ^ o .fine * 256 ^ o .fine + c % 256 ^ o .fine) (power-pos (o .fine)),
         )
         (div-add-mod' c (256 ^ o .fine))
+
+    pub found : Found h o c m s
+    found =
+        record {
+          whole = eq-eqb (length s) (packetLength s) length-right;
+          form = form-right;
+          within = le-leb (timeEnd (octetsIn s)) (length s) (omega (arith, end-right, length-bytes));
+          header = header-read;
+          octets = octets-read;
+          end = end-right;
+          ticks = rw octets-read ticks-right;
+        }

@@ -2,3 +2,4 @@
 pub mod Octets
 pub mod Header
 pub mod Written
+pub mod RoundTrip

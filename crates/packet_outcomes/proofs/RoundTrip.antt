@@ -1,0 +1,91 @@
+-- A written packet is read as what was written.
+use Prim.Native.Nat.{ℕ, _<_}
+use mathlib.Core.Path.{_≡_, refl, ap, _∙_}
+use mathlib.Core.List.{List}
+use mathlib.Core.Logic.{⊎-elim}
+use lib.ListN.{length}
+use native.Mathlib.Omega.{arith}
+use Rattle.base.specs.Scans.{isNone}
+use Rattle.rules.specs.declared.Layout.{Layout}
+use Rattle.rules.specs.Answer.{answer, unless, unlessAt, andThen}
+use Rattle.rules.specs.Layout.{productOf}
+use Rattle.rules.specs.Partitions.{Partitions}
+use Rattle.rules.specs.Facts.{PartitionsFacts}
+use Rattle.rules.specs.Stamp.{encodedIn, encodeFirst}
+use Rattle.rules.specs.Print.{partitionOf}
+use Rattle.rules.proofs.Accepted.{partitions-facts}
+use Rattle.roundtrip.specs.Unnamed.{Holds, FirstToHold}
+use Rattle.roundtrip.proofs.Encoded.{Lies, lies, Decoded, decoded}
+use Rattle.roundtrip.proofs.Unnamed.{holds-fact, first-or-none}
+use Rattle.roundtrip.proofs.Buffers.{front}
+use Rattle.packet_rules.specs.Read.{acceptedPacket, secondModulus, packetAt, readPacket}
+use Rattle.packet_rules.specs.Write.{packetBytes}
+use Rattle.packet_outcomes.specs.RoundTrip.{Content, write, clockCount, backWith, NoEarlierHolds, Back, PacketReadsBack, CallReadsBack}
+use Rattle.packet_outcomes.proofs.Header.{length-bytes, data-bytes, are-octets, found}
+use Rattle.packet_outcomes.proofs.Written.{Writes, writes}
+
+module _ (l : Layout) (p : Partitions) (w : Content) (s : List ℕ) (k : Writes l p w s) where
+  abbrev c : ℕ
+  c = clockCount p w
+
+  abbrev row : ℕ
+  row = partitionOf p (w .encoded)
+
+  abbrev bytes : List ℕ
+  bytes = packetBytes (w .header) (w .octets) c (w .payload)
+
+  facts : PartitionsFacts (productOf l) p
+  facts = partitions-facts (productOf l) p (ap isNone (k .clock .partitions))
+
+  there : Lies p (w .encoded) row
+  there = lies p (w .encoded) (facts .some) (k .within)
+
+  count : Decoded (productOf l) p (w .encoded) row
+  count = decoded (productOf l) p (w .encoded) row (facts .each row (there .below)) there
+
+  held : Holds p c row
+  held = holds-fact p c row (there .below) (count .held)
+
+  -- the encoded count is that of the first partition that holds the clock's count
+  read-bytes : (e : ℕ) → encodeFirst p c ≡ answer e → readPacket l p bytes ≡ answer (backWith p w e)
+  unfolding readPacket acceptedPacket packetAt unless unlessAt andThen
+  read-bytes e h =
+      let f = found (w .header) (w .octets) c (w .payload) (k .ranges .fields) (k .few) (secondModulus l) (k .ranges .modulus) (k .held) in
+      rw (f .whole, f .form, f .within, k .clock .two, k .clock .layout, k .clock .partitions, f .ticks, h, f .header, f .end, f .octets)
+
+  record Encoded : Type 0 where
+    partition : ℕ
+    first : FirstToHold p c partition
+    encoded : encodeFirst p c ≡ answer (encodedIn p c partition)
+
+  encoded-first : Encoded
+  encoded-first = ⊎-elim (λ f. record { partition = f .0; first = f .1; encoded = f .2 }) (λ n. absurd (n .0 row held)) (first-or-none p c)
+
+  same-partition : (i : ℕ) → FirstToHold p c i → NoEarlierHolds p w → i ≡ row
+  same-partition i f n = 
+      let low : i < row → ⊥ = λ b. n i b (f .it) in
+      let high : row < i → ⊥ = λ b. f .earlier row b held in
+      omega arith
+
+  back : Back l p w bytes
+  unfolding encodedIn
+  back =
+      let r = k .ranges .fields in
+      let f = encoded-first in
+      record {
+        bytes = refl;
+        size = length-bytes (w .header) (w .octets) c (w .payload) r;
+        short = omega (arith, length-bytes (w .header) (w .octets) c (w .payload) r, k .few);
+        are-octets = are-octets (w .header) (w .octets) c (w .payload) r;
+        given = data-bytes (w .header) (w .octets) c (w .payload) r;
+        partition = f .partition;
+        first = f .first;
+        read = read-bytes _ (f .encoded);
+        same = λ n. read-bytes (w .encoded) (f .encoded ∙ rw (same-partition (f .partition) (f .first) n, count .encoded));
+      }
+
+pub packet-reads-back : PacketReadsBack
+packet-reads-back l p w room s h = let k = writes l p w room s h in rw (k .bytes) (back l p w s k)
+
+pub call-reads-back : CallReadsBack
+call-reads-back l p w buffer n h = packet-reads-back l p w (length buffer) _ (front (write l p w (length buffer)) buffer n h)
