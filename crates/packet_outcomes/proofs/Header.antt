@@ -3,23 +3,22 @@ use Prim.Native.Nat.{ℕ, _+_, _*_, _/_, _%_, _^_, _≤_, _<_}
 use mathlib.Core.Path.{_≡_, refl, ap}
 use mathlib.Core.Bool.{true}
 use mathlib.Core.List.{List, _++_}
-use lib.Dec.{leb, eqb}
 use lib.ListN.{length, length-append, take, drop}
 use lib.Seq.{take-at, drop-at, drop-drop}
-use borrow.Author.Tests.{le-leb, eq-eqb}
+use borrow.Author.Tests.{le-leb}
 use native.Mathlib.Nat.{mul-div-cancel, div-add-mod'}
 use native.Mathlib.Omega.{arith}
-use Rattle.base.specs.Scans.{allOf, all}
+use Rattle.base.specs.Scans.{all}
 use Rattle.base.specs.Rounding.{roundDown}
-use Rattle.base.proofs.Tests.{and-both}
 use Rattle.base.proofs.Lists.{all-append, all-cons}
 use Rattle.packet_rules.specs.declared.PacketHeader.{PacketHeader}
 use Rattle.packet_rules.specs.declared.TimeOctets.{TimeOctets}
 use Rattle.packet_rules.specs.Octets.{bigFrom, octets, bits}
-use Rattle.packet_rules.specs.Header.{wordAt, version, secondaryFlag, headerIn, extension, timeCode, octetsIn, timeStart, timeEnd, packetLength}
-use Rattle.packet_rules.specs.Read.{formOk, ticks, ticksIn}
+use Rattle.packet_rules.specs.Header.{wordAt, headerIn, octetsIn, timeStart, timeEnd, packetLength}
+use Rattle.packet_rules.specs.Read.{ticks, ticksIn}
 use Rattle.packet_rules.specs.Write.{mostDataOctets, dataOctets, pFieldOf, packetBytes}
 use Rattle.packet_outcomes.specs.RoundTrip.{isOctet}
+use Rattle.packet_outcomes.specs.Reading.{RightForm, GoodPacket}
 use Rattle.packet_outcomes.proofs.Octets.{power-pos, length-octets, all-octets, big-octets, big-octets-same}
 
 -- what writing asks of the header and the octets
@@ -47,9 +46,7 @@ same-octets o q c f = pairs c f
 
 -- what reading finds in the bytes s, for a modulus m
 pub record Found (h : PacketHeader) (o : TimeOctets) (c m : ℕ) (s : List ℕ) : Type 0 where
-  pub whole : eqb (length s) (packetLength s) ≡ true
-  pub form : formOk s ≡ true
-  pub within : leb (timeEnd (octetsIn s)) (length s) ≡ true
+  pub good : GoodPacket s
   pub header : headerIn s ≡ h
   pub octets : octetsIn s ≡ o
   pub end : timeEnd (octetsIn s) ≡ timeEnd o
@@ -67,11 +64,9 @@ module _ (h : PacketHeader) (o : TimeOctets) (c : ℕ) (d : List ℕ) (r : InRan
   unfolding packetBytes octets wordAt bigFrom bits
   octets-read = same-octets _ o (omega arith) (omega arith)
 
-  form-right : formOk s ≡ true
-  unfolding packetBytes octets wordAt bigFrom bits formOk allOf
-  form-right =
-      and-both (eq-eqb (version s) 0 (omega arith))
-      (and-both (eq-eqb (secondaryFlag s) 1 (omega arith)) (and-both (eq-eqb (extension s) 0 (omega arith)) (and-both (eq-eqb (timeCode s) 2 (omega arith)) refl)))
+  form-right : RightForm s
+  unfolding packetBytes octets wordAt bigFrom bits
+  form-right = record { version = omega arith; flag = omega arith; extension = omega arith; code = omega arith }
 
   -- the octets of the time
   abbrev coarse : List ℕ
@@ -136,9 +131,7 @@ module _ (h : PacketHeader) (o : TimeOctets) (c : ℕ) (d : List ℕ) (r : InRan
     pub found : Found h o c m s
     found =
         record {
-          whole = eq-eqb (length s) (packetLength s) length-right;
-          form = form-right;
-          within = le-leb (timeEnd (octetsIn s)) (length s) (omega (arith, end-right, length-bytes));
+          good = record { whole = length-right; form = form-right; within = omega (arith, end-right, length-bytes) };
           header = header-read;
           octets = octets-read;
           end = end-right;

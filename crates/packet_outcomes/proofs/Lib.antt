@@ -1,4 +1,5 @@
 -- The theorems of specs/, and the laws that lead to them.
+pub mod Accepted
 pub mod Octets
 pub mod Header
 pub mod Written

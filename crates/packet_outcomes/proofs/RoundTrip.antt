@@ -1,13 +1,12 @@
 -- A written packet is read as what was written.
 use Prim.Native.Nat.{ℕ, _<_}
-use mathlib.Core.Path.{_≡_, refl, ap, _∙_}
+use mathlib.Core.Path.{_≡_, refl, _∙_}
 use mathlib.Core.List.{List}
 use mathlib.Core.Logic.{⊎-elim}
 use lib.ListN.{length}
 use native.Mathlib.Omega.{arith}
-use Rattle.base.specs.Scans.{isNone}
 use Rattle.rules.specs.declared.Layout.{Layout}
-use Rattle.rules.specs.Answer.{answer, unless, unlessAt, andThen}
+use Rattle.rules.specs.Answer.{answer, andThen}
 use Rattle.rules.specs.Layout.{productOf}
 use Rattle.rules.specs.Partitions.{Partitions}
 use Rattle.rules.specs.Facts.{PartitionsFacts}
@@ -18,9 +17,10 @@ use Rattle.roundtrip.specs.Unnamed.{Holds, FirstToHold}
 use Rattle.roundtrip.proofs.Encoded.{Lies, lies, Decoded, decoded}
 use Rattle.roundtrip.proofs.Unnamed.{holds-fact, first-or-none}
 use Rattle.roundtrip.proofs.Buffers.{front}
-use Rattle.packet_rules.specs.Read.{acceptedPacket, secondModulus, packetAt, readPacket}
+use Rattle.packet_rules.specs.Read.{secondModulus, packetAt, readPacket}
 use Rattle.packet_rules.specs.Write.{packetBytes}
 use Rattle.packet_outcomes.specs.RoundTrip.{Content, write, clockCount, backWith, NoEarlierHolds, Back, PacketReadsBack, CallReadsBack}
+use Rattle.packet_outcomes.proofs.Accepted.{packet-accepted, clock-accepted}
 use Rattle.packet_outcomes.proofs.Header.{length-bytes, data-bytes, are-octets, found}
 use Rattle.packet_outcomes.proofs.Written.{Writes, writes}
 
@@ -35,7 +35,7 @@ module _ (l : Layout) (p : Partitions) (w : Content) (s : List ℕ) (k : Writes 
   bytes = packetBytes (w .header) (w .octets) c (w .payload)
 
   facts : PartitionsFacts (productOf l) p
-  facts = partitions-facts (productOf l) p (ap isNone (k .clock .partitions))
+  facts = partitions-facts (productOf l) p (k .clock .partitions)
 
   there : Lies p (w .encoded) row
   there = lies p (w .encoded) (facts .some) (k .within)
@@ -48,10 +48,10 @@ module _ (l : Layout) (p : Partitions) (w : Content) (s : List ℕ) (k : Writes 
 
   -- the encoded count is that of the first partition that holds the clock's count
   read-bytes : (e : ℕ) → encodeFirst p c ≡ answer e → readPacket l p bytes ≡ answer (backWith p w e)
-  unfolding readPacket acceptedPacket packetAt unless unlessAt andThen
+  unfolding readPacket packetAt andThen
   read-bytes e h =
       let f = found (w .header) (w .octets) c (w .payload) (k .ranges .fields) (k .few) (secondModulus l) (k .ranges .modulus) (k .held) in
-      rw (f .whole, f .form, f .within, k .clock .two, k .clock .layout, k .clock .partitions, f .ticks, h, f .header, f .end, f .octets)
+      packet-accepted _ bytes (f .good) ∙ (clock-accepted _ l p (k .clock) ∙ rw (f .ticks, h, f .header, f .end, f .octets))
 
   record Encoded : Type 0 where
     partition : ℕ

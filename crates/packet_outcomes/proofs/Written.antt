@@ -3,37 +3,21 @@ use Prim.Native.Nat.{ℕ, _/_, _^_, _≤_, _<_}
 use mathlib.Core.Path.{_≡_, sym}
 use mathlib.Core.Bool.{true}
 use mathlib.Core.List.{List}
-use mathlib.Core.Option.{none}
-use lib.Dec.{eqb}
 use borrow.Author.Tests.{leb-true, ltb-true, eqb-true}
 use Rattle.base.proofs.Tests.{all-of-head, all-of-tail}
 use Rattle.rules.specs.declared.Layout.{Layout}
-use Rattle.rules.specs.Answer.{Answer, answer}
-use Rattle.rules.specs.Layout.{layoutOk, productOf}
-use Rattle.rules.specs.Partitions.{Partitions, totalOf, partitionsFault}
+use Rattle.rules.specs.Answer.{answer}
+use Rattle.rules.specs.Partitions.{Partitions, totalOf}
 use Rattle.rules.specs.Print.{fitting}
-use Rattle.rules.proofs.Answers.{payload, unless-test, unless-rest, unless-at-none, unless-at-rest}
+use Rattle.rules.proofs.Answers.{payload, unless-test, unless-rest}
 use Rattle.packet_rules.specs.declared.PacketHeader.{PacketHeader}
 use Rattle.packet_rules.specs.declared.TimeOctets.{TimeOctets}
-use Rattle.packet_rules.specs.Read.{acceptedClock, secondModulus}
+use Rattle.packet_rules.specs.Read.{secondModulus}
 use Rattle.packet_rules.specs.Write.{writable, mostDataOctets, dataOctets, packetBytes, packetOf, writePacket}
 use Rattle.packet_outcomes.specs.RoundTrip.{Content, write, clockCount}
+use Rattle.packet_outcomes.specs.Reading.{GoodClock}
+use Rattle.packet_outcomes.proofs.Accepted.{good-clock}
 use Rattle.packet_outcomes.proofs.Header.{InRange}
-
--- tables that both calls take
-pub record GoodClock (l : Layout) (p : Partitions) : Type 0 where
-  pub two : eqb (l .n) 2 ≡ true
-  pub layout : layoutOk l ≡ true
-  pub partitions : partitionsFault (productOf l) p ≡ none
-
-module _ {A : Type 0} (l : Layout) (p : Partitions) (a : Answer A) (v : A) (h : acceptedClock l p a ≡ answer v) where
-  pub good-clock : GoodClock l p
-  good-clock =
-      let h1 = unless-rest 1 _ _ v h in
-      record { two = unless-test 1 _ _ v h; layout = unless-test 1 _ _ v h1; partitions = unless-at-none 2 _ _ v (unless-rest 1 _ _ v h1) }
-
-  pub after-clock : a ≡ answer v
-  after-clock = unless-at-rest 2 _ _ v (unless-rest 1 _ _ v (unless-rest 1 _ _ v h))
 
 pub record Ranges (h : PacketHeader) (o : TimeOctets) (m : ℕ) : Type 0 where
   pub fields : InRange h o
@@ -74,13 +58,14 @@ pub record Writes (l : Layout) (p : Partitions) (w : Content) (s : List ℕ) : T
 pub writes : (l : Layout) (p : Partitions) (w : Content) (room : ℕ) (s : List ℕ) → write l p w room ≡ answer s → Writes l p w s
 unfolding writePacket packetOf fitting
 writes l p w room s h =
-    let h1 = after-clock l p _ s h in
+    let clock = good-clock _ s l p h in
+    let h1 = clock .1 in
     let h2 = unless-rest 26 _ _ s h1 in
     let h3 = unless-rest 25 _ _ s h2 in
     let h4 = unless-rest 12 _ _ s h3 in
     let h5 = unless-rest 9 _ _ s h4 in
     record {
-      clock = good-clock l p _ s h;
+      clock = clock .0;
       ranges = ranges _ _ _ (unless-test 26 _ _ s h1);
       few = leb-true _ _ (unless-test 25 _ _ s h2);
       within = leb-true _ _ (unless-test 12 _ _ s h3);

@@ -1,2 +1,6 @@
 -- What is proved of satellite packets, over the definitions of packet_rules.
 pub mod RoundTrip
+pub mod Needed
+pub mod Refusals
+pub mod Reading
+pub mod Rows
