@@ -25,7 +25,7 @@ module _ {A B : Type 0} (Q : B → Type 0) where
   then-answer (refused k) f g y h = absurd (not-answer h)
 
 module _ (p : Partitions) (c : ℕ) where
-  encoded-within : (i : ℕ) → i < partitionsIn p → holds p c i ≡ true → encodedIn p c i ≤ totalOf p
+  pub encoded-within : (i : ℕ) → i < partitionsIn p → holds p c i ≡ true → encodedIn p c i ≤ totalOf p
   unfolding holds encodedIn totalOf lengthsBefore
   encoded-within i b h =
       let to = leb-true c (endOf p i) (and-second (leb (startOf p i) c) _ h) in

@@ -4,3 +4,7 @@ pub mod Octets
 pub mod Header
 pub mod Written
 pub mod RoundTrip
+pub mod Refusals
+pub mod Rows
+pub mod Rungs
+pub mod Reading

@@ -21,7 +21,7 @@ module _ {A : Type 0} where
   same-place : {k i n j : ℕ} → _≡_ {A = Answer A} (refuseAt k i) (refuseAt n j) → i ≡ j
   same-place {k} {i} {n} {j} h = let e : Places.At i ≡ Places.At j = ap (λ r. r .place) (same-refusal h) in cc
 
-  no-place : {k n j : ℕ} → _≡_ {A = Answer A} (refuse k) (refuseAt n j) → ⊥
+  pub no-place : {k n j : ℕ} → _≡_ {A = Answer A} (refuse k) (refuseAt n j) → ⊥
   no-place {k} {n} {j} h =
       let e : Places.None ≡ Places.At j = ap (λ r. r .place) (same-refusal h) in
       let z : _≡_ {A = ℕ} 0 1 = cc in
