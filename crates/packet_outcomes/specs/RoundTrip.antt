@@ -3,12 +3,13 @@ use Prim.Native.Nat.{ℕ, _+_, _-_, _≤_, _<_}
 use mathlib.Core.Path.{_≡_}
 use mathlib.Core.Bool.{Bool, true}
 use mathlib.Core.List.{List}
+use mathlib.Core.Logic.{_⊎_}
 use lib.Dec.{leb}
 use lib.ListN.{length, take, drop}
 use Rattle.base.specs.Scans.{all}
 use Rattle.rules.specs.declared.Layout.{Layout}
 use Rattle.rules.specs.Answer.{Answer, answer}
-use Rattle.rules.specs.Partitions.{Partitions, startOf, lengthsBefore}
+use Rattle.rules.specs.Partitions.{Partitions, startOf, endOf, lengthsBefore}
 use Rattle.rules.specs.Print.{partitionOf, decodedIn, lengthPrinted, bufferAfter}
 use Rattle.roundtrip.specs.Unnamed.{Holds, FirstToHold}
 use Rattle.packet_rules.specs.declared.PacketHeader.{PacketHeader}
@@ -40,6 +41,12 @@ backWith p w e = record { header = w .header; octets = w .octets; payload = time
 abbrev pub NoEarlierHolds : Partitions → Content → Type 0
 NoEarlierHolds p w = (i : ℕ) → i < partitionOf p (w .encoded) → Holds p (clockCount p w) i → ⊥
 
+-- partition i ends where the next one, j, starts, at the count c
+pub record Meets (p : Partitions) (c i j : ℕ) : Type 0 where
+  pub next : i + 1 ≡ j
+  pub end : endOf p i ≡ c
+  pub start : startOf p j ≡ c
+
 -- the longest packet has 65,536 data octets behind its header
 abbrev pub longestPacket : ℕ
 longestPacket = 65_542
@@ -61,6 +68,8 @@ pub record Back (l : Layout) (p : Partitions) (w : Content) (s : List ℕ) : Typ
   pub read : readPacket l p s ≡ answer (backWith p w (lengthsBefore p partition + (clockCount p w - startOf p partition)))
   -- "the same encoded count where no earlier partition holds it"
   pub same : NoEarlierHolds p w → readPacket l p s ≡ answer (backWith p w (w .encoded))
+  -- and only there, but where two partitions meet: "an inner end and the next start share one encoded count"
+  pub only : readPacket l p s ≡ answer (backWith p w (w .encoded)) → NoEarlierHolds p w ⊎ Meets p (clockCount p w) partition (partitionOf p (w .encoded))
 
 abbrev pub PacketReadsBack : Type 0
 PacketReadsBack = (l : Layout) (p : Partitions) (w : Content) (room : ℕ) (s : List ℕ) → write l p w room ≡ answer s → Back l p w s
