@@ -1,5 +1,5 @@
 -- A packet, and the tables of a clock, are accepted exactly where their named facts hold.
-use Prim.Native.Nat.{ℕ, _≤_}
+use Prim.Native.Nat.{ℕ}
 use mathlib.Core.Path.{_≡_, refl, ap}
 use mathlib.Core.Bool.{true}
 use mathlib.Core.List.{List}
@@ -13,7 +13,7 @@ use Rattle.rules.specs.Answer.{Answer, answer, unless, unlessAt}
 use Rattle.rules.specs.Layout.{productOf}
 use Rattle.rules.specs.Partitions.{Partitions, partitionsFault}
 use Rattle.rules.proofs.Answers.{unless-test, unless-rest, unless-at-none, unless-at-rest}
-use Rattle.packet_rules.specs.Header.{version, secondaryFlag, extension, timeCode, octetsIn, agencyEpoch, timeEnd, packetLength}
+use Rattle.packet_rules.specs.Header.{octetsIn, timeEnd, packetLength}
 use Rattle.packet_rules.specs.Read.{formOk, acceptedPacket, acceptedClock}
 use Rattle.packet_outcomes.specs.Reading.{RightForm, GoodPacket, GoodClock}
 

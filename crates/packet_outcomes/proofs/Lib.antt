@@ -4,6 +4,7 @@ pub mod Octets
 pub mod Header
 pub mod Written
 pub mod RoundTrip
+pub mod Longest
 pub mod Refusals
 pub mod Rows
 pub mod Rungs

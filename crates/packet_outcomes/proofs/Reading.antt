@@ -1,7 +1,7 @@
 -- What an answer and each refusal of reading say.
 use Prim.Native.Nat.{ℕ, _+_, _*_, _^_, _<_}
 use mathlib.Core.Path.{_≡_, refl, sym, subst, _∙_}
-use mathlib.Core.Bool.{true, false}
+use mathlib.Core.Bool.{false}
 use mathlib.Core.List.{List, [], _∷_}
 use mathlib.Core.Logic.{_⊎_, _↔_, inl, inr, ⊎-elim}
 use lib.Dec.{leb}
@@ -88,7 +88,7 @@ module _ (l : Layout) (p : Partitions) (s : List ℕ) where
         ⊎-elim (λ u. inr (eqb-true _ _ (w .0), right-form s (v .0), leb-false _ _ (u .1))) (λ u. absurd (outside behind-only refl (u .1))) (at-or-past 25 _ _ (v .1)))
         (at-or-past 25 _ _ h),
     ⊎-elim (λ n. rw (ne-eqb (length s) (packetLength s) n))
-    (λ w. rw (eq-eqb (length s) (packetLength s) (w .0), form-accepted s (w .1), lt-leb (timeEnd (octetsIn s)) (length s) (w .2))),
+        (λ w. rw (eq-eqb (length s) (packetLength s) (w .0), form-accepted s (w .1), lt-leb (timeEnd (octetsIn s)) (length s) (w .2))),
   )
 
   wrong-form : (RightForm s → ⊥) → formOk s ≡ false

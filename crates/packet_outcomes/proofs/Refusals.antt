@@ -2,12 +2,11 @@
 use Prim.Native.Nat.{ℕ}
 use mathlib.Core.Path.{_≡_, refl}
 use mathlib.Core.Bool.{Bool, true, false}
-use mathlib.Core.List.{List, [], _∷_}
+use mathlib.Core.List.{List}
 use mathlib.Core.Logic.{⊎-elim}
 use Rattle.base.specs.Scans.{among}
-use Rattle.rules.specs.declared.Layout.{Layout}
 use Rattle.rules.specs.Partitions.{Partitions}
-use Rattle.outcomes.specs.Refusals.{noPlace, OnlyRefuses}
+use Rattle.outcomes.specs.Refusals.{OnlyRefuses}
 use Rattle.outcomes.proofs.Ladder.{answers, last-rung, rung, rung-at, then}
 use Rattle.outcomes.proofs.Refusals.{fitting-only}
 use Rattle.roundtrip.proofs.Unnamed.{first-or-none}

@@ -66,7 +66,7 @@ module _ (l : Layout) (p : Partitions) (w : Content) (s : List ℕ) (k : Writes 
   encoded-first = ⊎-elim (λ f. record { partition = f .0; first = f .1; encoded = f .2 }) (λ n. absurd (n .0 row held)) (first-or-none p c)
 
   same-partition : (i : ℕ) → FirstToHold p c i → NoEarlierHolds p w → i ≡ row
-  same-partition i f n = 
+  same-partition i f n =
       let low : i < row → ⊥ = λ b. n i b (f .it) in
       let high : row < i → ⊥ = λ b. f .earlier row b held in
       omega arith

@@ -7,7 +7,7 @@ use mathlib.Core.Logic.{_⊎_, _↔_}
 use lib.ListN.{length}
 use Rattle.base.specs.Rounding.{roundDown}
 use Rattle.rules.specs.declared.Layout.{Layout}
-use Rattle.rules.specs.Answer.{Answer, answer, refuse}
+use Rattle.rules.specs.Answer.{answer, refuse}
 use Rattle.rules.specs.Layout.{layoutOk, productOf}
 use Rattle.rules.specs.Partitions.{Partitions, startOf, lengthsBefore, totalOf, partitionsOk}
 use Rattle.roundtrip.specs.Unnamed.{FirstToHold, NoneHolds}

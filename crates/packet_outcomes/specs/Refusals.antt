@@ -1,6 +1,6 @@
 -- The exact set of refusals of each call, of which 2 has a place. proofs/Refusals.antt shows that no other is given; here a call gives each.
 use Prim.Native.Nat.{ℕ}
-use mathlib.Core.Path.{_≡_, refl}
+use mathlib.Core.Path.{refl}
 use mathlib.Core.Bool.{Bool}
 use mathlib.Core.List.{List, [], _∷_}
 use lib.Dec.{eqb}

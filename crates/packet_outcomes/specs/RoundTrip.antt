@@ -8,7 +8,7 @@ use lib.Dec.{leb}
 use lib.ListN.{length, take, drop}
 use Rattle.base.specs.Scans.{all}
 use Rattle.rules.specs.declared.Layout.{Layout}
-use Rattle.rules.specs.Answer.{Answer, answer}
+use Rattle.rules.specs.Answer.{Answer, answer, refuse}
 use Rattle.rules.specs.Partitions.{Partitions, startOf, endOf, lengthsBefore}
 use Rattle.rules.specs.Print.{partitionOf, decodedIn, lengthPrinted, bufferAfter}
 use Rattle.roundtrip.specs.Unnamed.{Holds, FirstToHold}
@@ -18,6 +18,7 @@ use Rattle.packet_rules.specs.declared.Packet.{Packet}
 use Rattle.packet_rules.specs.Header.{timeEnd}
 use Rattle.packet_rules.specs.Read.{readPacket}
 use Rattle.packet_rules.specs.Write.{packetBytes, writePacket}
+use Rattle.packet_rules.specs.Examples.{octetsOf, clock, upTo, zeros}
 
 -- What is written.
 pub record Content : Type 0 where
@@ -79,3 +80,11 @@ abbrev pub CallReadsBack : Type 0
 CallReadsBack =
     (l : Layout) (p : Partitions) (w : Content) (buffer : List ℕ) (n : ℕ) → lengthPrinted (write l p w (length buffer)) ≡ answer n
     → Back l p w (take n (bufferAfter (write l p w (length buffer)) buffer))
+
+-- "over 65,536 data octets": some packet is the longest, and is refused with one octet more; two coarse octets and one fine
+abbrev pub longContent : List ℕ → Content
+longContent d = record { header = zeros; octets = octetsOf 2 1; encoded = 5; payload = d }
+
+pub record LongestWritten : Type 0 where
+  pub written : (d : List ℕ) → length d ≡ 65_532 → (s : List ℕ) × (write (clock 1_000 256) (upTo 1_000) (longContent d) longestPacket ≡ answer s) × (length s ≡ longestPacket)
+  pub too-long : (d : List ℕ) → length d ≡ 65_533 → (room : ℕ) → write (clock 1_000 256) (upTo 1_000) (longContent d) room ≡ refuse 25
