@@ -45,7 +45,7 @@ same-octets o q c f = pairs c f
     pairs p q = rw (p, q)
 
 -- what reading finds in the bytes s, for a modulus m
-pub record Found (h : PacketHeader) (o : TimeOctets) (c m : ℕ) (s : List ℕ) : Type 0 where
+pub record AsWritten (h : PacketHeader) (o : TimeOctets) (c m : ℕ) (s : List ℕ) : Type 0 where
   pub good : GoodPacket s
   pub header : headerIn s ≡ h
   pub octets : octetsIn s ≡ o
@@ -128,8 +128,8 @@ module _ (h : PacketHeader) (o : TimeOctets) (c : ℕ) (d : List ℕ) (r : InRan
         )
         (div-add-mod' c (256 ^ o .fine))
 
-    pub found : Found h o c m s
-    found =
+    pub as-written : AsWritten h o c m s
+    as-written =
         record {
           good = record { whole = length-right; form = form-right; within = omega (arith, end-right, length-bytes) };
           header = header-read;

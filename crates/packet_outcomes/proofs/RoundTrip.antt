@@ -25,7 +25,7 @@ use Rattle.packet_rules.specs.Read.{secondModulus, packetAt, readPacket}
 use Rattle.packet_rules.specs.Write.{packetBytes}
 use Rattle.packet_outcomes.specs.RoundTrip.{Content, write, clockCount, backWith, NoEarlierHolds, Meets, Back, PacketReadsBack, CallReadsBack}
 use Rattle.packet_outcomes.proofs.Accepted.{packet-accepted, clock-accepted}
-use Rattle.packet_outcomes.proofs.Header.{length-bytes, data-bytes, are-octets, found}
+use Rattle.packet_outcomes.proofs.Header.{length-bytes, data-bytes, are-octets, as-written}
 use Rattle.packet_outcomes.proofs.Written.{Writes, writes}
 
 module _ (l : Layout) (p : Partitions) (w : Content) (s : List ℕ) (k : Writes l p w s) where
@@ -54,7 +54,7 @@ module _ (l : Layout) (p : Partitions) (w : Content) (s : List ℕ) (k : Writes 
   read-bytes : (e : ℕ) → encodeFirst p c ≡ answer e → readPacket l p bytes ≡ answer (backWith p w e)
   unfolding readPacket packetAt andThen
   read-bytes e h =
-      let f = found (w .header) (w .octets) c (w .payload) (k .ranges .fields) (k .few) (secondModulus l) (k .ranges .modulus) (k .held) in
+      let f = as-written (w .header) (w .octets) c (w .payload) (k .ranges .fields) (k .few) (secondModulus l) (k .ranges .modulus) (k .held) in
       packet-accepted _ bytes (f .good) ∙ (clock-accepted _ l p (k .clock) ∙ rw (f .ticks, h, f .header, f .end, f .octets))
 
   record Encoded : Type 0 where
@@ -67,7 +67,7 @@ module _ (l : Layout) (p : Partitions) (w : Content) (s : List ℕ) (k : Writes 
 
   same-partition : (i : ℕ) → FirstToHold p c i → NoEarlierHolds p w → i ≡ row
   same-partition i f n =
-      let low : i < row → ⊥ = λ b. n i b (f .it) in
+      let low : i < row → ⊥ = λ b. n i (omega (arith, b)) (f .it) in
       let high : row < i → ⊥ = λ b. f .earlier row b held in
       omega arith
 
