@@ -19,17 +19,8 @@ use Rattle.packet_rules.specs.Read.{ticks, ticksIn}
 use Rattle.packet_rules.specs.Write.{mostDataOctets, dataOctets, pFieldOf, packetBytes}
 use Rattle.packet_outcomes.specs.RoundTrip.{isOctet}
 use Rattle.packet_outcomes.specs.Reading.{RightForm, GoodPacket}
+use Rattle.packet_outcomes.specs.Writing.{InRange}
 use Rattle.packet_outcomes.proofs.Octets.{power-pos, length-octets, all-octets, big-octets, big-octets-same}
-
--- what writing asks of the header and the octets
-pub record InRange (h : PacketHeader) (o : TimeOctets) : Type 0 where
-  pub coarse-low : 1 ≤ o .coarse
-  pub coarse-high : o .coarse ≤ 4
-  pub fine : o .fine ≤ 3
-  pub kind : h .kind ≤ 1
-  pub apid : h .apid ≤ 2_047
-  pub flags : h .flags ≤ 3
-  pub sequence : h .sequence ≤ 16_383
 
 same-header : (h k : PacketHeader) → h .kind ≡ k .kind → h .apid ≡ k .apid → h .flags ≡ k .flags → h .sequence ≡ k .sequence → h ≡ k
 same-header h k p q r s = headers p q r s

@@ -4,9 +4,9 @@ use mathlib.Core.Path.{_≡_, refl, sym, subst, _∙_}
 use mathlib.Core.Bool.{false}
 use mathlib.Core.List.{List, [], _∷_}
 use mathlib.Core.Logic.{_⊎_, _↔_, inl, inr, ⊎-elim}
-use lib.Dec.{leb}
+use lib.Dec.{leb, eqb}
 use lib.ListN.{length}
-use borrow.Author.Tests.{lt-leb, leb-true, leb-false, eq-eqb, ne-eqb, eqb-true}
+use borrow.Author.Tests.{lt-leb, leb-true, leb-false, eq-eqb, ne-eqb, eqb-true, eqb-false}
 use native.Mathlib.Nat.{add-mul, mul-right-comm, mul-add-div-right}
 use native.Mathlib.Omega.{arith}
 use Rattle.base.specs.Scans.{among}
@@ -14,7 +14,7 @@ use Rattle.base.specs.Rounding.{roundDown}
 use Rattle.base.proofs.Tests.{by-test, not-both}
 use Rattle.rules.specs.declared.Layout.{Layout}
 use Rattle.rules.specs.Answer.{Answer, answer, refuse, unless, andThen}
-use Rattle.rules.specs.Layout.{productOf}
+use Rattle.rules.specs.Layout.{layoutOk, productOf}
 use Rattle.rules.specs.Partitions.{Partitions}
 use Rattle.rules.specs.Stamp.{encodedIn}
 use Rattle.rules.proofs.Accepted.{partitions-facts}
@@ -33,6 +33,15 @@ use Rattle.packet_outcomes.proofs.Octets.{power-pos}
 use Rattle.packet_outcomes.proofs.Accepted.{right-form, form-accepted, packet-accepted, clock-accepted, good-packet, good-clock}
 use Rattle.packet_outcomes.proofs.Rungs.{at-or-past, past, past-at, outside}
 use Rattle.packet_outcomes.proofs.Refusals.{packet-only}
+
+-- what follows a packet refuses neither 25 nor 26
+past-packet : {A : Type 0} (n : ℕ) (a : Answer A) (s : List ℕ) → (25 ≡ n → ⊥) → (26 ≡ n → ⊥) → acceptedPacket s a ≡ refuse n → GoodPacket s × (a ≡ refuse n)
+unfolding acceptedPacket
+past-packet n a s f g h =
+    let w = past 25 _ _ f h in
+    let v = past 26 _ _ g (w .1) in
+    let u = past 25 _ _ f (v .1) in
+    (record { whole = eqb-true _ _ (w .0); form = right-form s (v .0); within = leb-true _ _ (u .0) }, u .1)
 
 module _ (l : Layout) (p : Partitions) (s : List ℕ) where
   abbrev c : ℕ
@@ -104,16 +113,32 @@ module _ (l : Layout) (p : Partitions) (s : List ℕ) where
     λ w. rw (eq-eqb (length s) (packetLength s) (w .0), wrong-form (w .1)),
   )
 
+  refused-layout : (l .n ≡ 2 → ⊥) ⊎ (layoutOk l ≡ false) → behind ≡ refuse 1
+  unfolding unless
+  refused-layout (inl n) = rw (ne-eqb (l .n) 2 n)
+  refused-layout (inr f) = rw f (by-test (eqb (l .n) 2) (λ t. rw t) (λ n. rw n))
+
+  another-layout : readPacket l p s ≡ refuse 1 ↔ GoodPacket s × ((l .n ≡ 2 → ⊥) ⊎ (layoutOk l ≡ false))
+  unfolding readPacket unless among packetPlace
+  another-layout = (
+    λ h. let w = past-packet 1 _ s (λ e. omega (arith, e)) (λ e. omega (arith, e)) h in (
+      w .0,
+      ⊎-elim (λ t. inl (eqb-false (l .n) 2 (t .1)))
+          (λ t. ⊎-elim (λ k. inr (k .1)) (λ k. absurd (outside (packet-only {places = packetPlace} {ks = 11 ∷ []} refl refl p s c) refl (past-at 2 _ _ (k .1) .1))) (at-or-past 1 _ _ (t .1)))
+          (at-or-past 1 _ _ (w .1)),
+    ),
+    λ w. packet-accepted _ s (w .0)
+        ∙ refused-layout (w .1),
+  )
+
   none-holds : readPacket l p s ≡ refuse 11 ↔ GoodPacket s × GoodClock l p × NoneHolds p c
-  unfolding readPacket acceptedPacket
+  unfolding readPacket
   none-holds = (
-    λ h. let w = past 25 _ _ (λ e. omega (arith, e)) h in
-        let v = past 26 _ _ (λ e. omega (arith, e)) (w .1) in
-        let u = past 25 _ _ (λ e. omega (arith, e)) (v .1) in
-        let t = past 1 _ _ (λ e. omega (arith, e)) (u .1) in
+    λ h. let w = past-packet 11 _ s (λ e. omega (arith, e)) (λ e. omega (arith, e)) h in
+        let t = past 1 _ _ (λ e. omega (arith, e)) (w .1) in
         let k = past 1 _ _ (λ e. omega (arith, e)) (t .1) in
         let q = past-at 2 _ _ (k .1) in (
-          record { whole = eqb-true _ _ (w .0); form = right-form s (v .0); within = leb-true _ _ (u .0) },
+          w .0,
           record { two = eqb-true _ _ (t .0); layout = k .0; partitions = q .0 },
           ⊎-elim (λ f. absurd (not-answer (sym (q .1) ∙ f .2))) (λ n. n .0) first-packet,
         ),
@@ -133,6 +158,7 @@ reading =
       answered = answered;
       another-length = another-length;
       another-form = another-form;
+      another-layout = another-layout;
       none-holds = none-holds;
       too-short = too-short;
       ticks-parts = ticks-parts;

@@ -24,11 +24,12 @@ use Rattle.roundtrip.proofs.Buffers.{front}
 use Rattle.packet_rules.specs.Read.{secondModulus, packetAt, readPacket}
 use Rattle.packet_rules.specs.Write.{packetBytes}
 use Rattle.packet_outcomes.specs.RoundTrip.{Content, write, clockCount, backWith, NoEarlierHolds, Meets, Back, PacketReadsBack, CallReadsBack}
+use Rattle.packet_outcomes.specs.Writing.{Writable}
 use Rattle.packet_outcomes.proofs.Accepted.{packet-accepted, clock-accepted}
 use Rattle.packet_outcomes.proofs.Header.{length-bytes, data-bytes, are-octets, as-written}
-use Rattle.packet_outcomes.proofs.Written.{Writes, writes}
+use Rattle.packet_outcomes.proofs.Written.{facts}
 
-module _ (l : Layout) (p : Partitions) (w : Content) (s : List ℕ) (k : Writes l p w s) where
+module _ (l : Layout) (p : Partitions) (w : Content) (room : ℕ) (k : Writable l p w room) where
   abbrev c : ℕ
   c = clockCount p w
 
@@ -38,14 +39,14 @@ module _ (l : Layout) (p : Partitions) (w : Content) (s : List ℕ) (k : Writes 
   abbrev bytes : List ℕ
   bytes = packetBytes (w .header) (w .octets) c (w .payload)
 
-  facts : PartitionsFacts (productOf l) p
-  facts = partitions-facts (productOf l) p (k .clock .partitions)
+  rows : PartitionsFacts (productOf l) p
+  rows = partitions-facts (productOf l) p (k .clock .partitions)
 
   there : Lies p (w .encoded) row
-  there = lies p (w .encoded) (facts .some) (k .within)
+  there = lies p (w .encoded) (rows .some) (k .within)
 
   count : Decoded (productOf l) p (w .encoded) row
-  count = decoded (productOf l) p (w .encoded) row (facts .each row (there .below)) there
+  count = decoded (productOf l) p (w .encoded) row (rows .each row (there .below)) there
 
   held : Holds p c row
   held = holds-fact p c row (there .below) (count .held)
@@ -54,7 +55,7 @@ module _ (l : Layout) (p : Partitions) (w : Content) (s : List ℕ) (k : Writes 
   read-bytes : (e : ℕ) → encodeFirst p c ≡ answer e → readPacket l p bytes ≡ answer (backWith p w e)
   unfolding readPacket packetAt andThen
   read-bytes e h =
-      let f = as-written (w .header) (w .octets) c (w .payload) (k .ranges .fields) (k .few) (secondModulus l) (k .ranges .modulus) (k .held) in
+      let f = as-written (w .header) (w .octets) c (w .payload) (k .ranges) (k .few) (secondModulus l) (k .modulus) (k .held) in
       packet-accepted _ bytes (f .good) ∙ (clock-accepted _ l p (k .clock) ∙ rw (f .ticks, h, f .header, f .end, f .octets))
 
   record Encoded : Type 0 where
@@ -87,7 +88,7 @@ module _ (l : Layout) (p : Partitions) (w : Content) (s : List ℕ) (k : Writes 
             before-next p i,
             before-next p (i + 1),
             before-up p (i + 1 + 1) row (omega (arith, ltb-true (i + 1) row t)),
-            facts .each (i + 1) (omega (arith, there .below, ltb-true (i + 1) row t)) .ordered,
+            rows .each (i + 1) (omega (arith, there .below, ltb-true (i + 1) row t)) .ordered,
             f .it .to,
             there .from,
           )))
@@ -100,7 +101,7 @@ module _ (l : Layout) (p : Partitions) (w : Content) (s : List ℕ) (k : Writes 
   back : Back l p w bytes
   unfolding encodedIn
   back =
-      let r = k .ranges .fields in
+      let r = k .ranges in
       let f = encoded-first in
       record {
         bytes = refl;
@@ -116,7 +117,7 @@ module _ (l : Layout) (p : Partitions) (w : Content) (s : List ℕ) (k : Writes 
       }
 
 pub packet-reads-back : PacketReadsBack
-packet-reads-back l p w room s h = let k = writes l p w room s h in rw (k .bytes) (back l p w s k)
+packet-reads-back l p w room s h = let k = facts l p w room s h in rw (k .1) (back l p w room (k .0))
 
 pub call-reads-back : CallReadsBack
 call-reads-back l p w buffer n h = packet-reads-back l p w (length buffer) _ (front (write l p w (length buffer)) buffer n h)

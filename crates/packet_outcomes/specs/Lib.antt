@@ -3,4 +3,5 @@ pub mod RoundTrip
 pub mod Needed
 pub mod Refusals
 pub mod Reading
+pub mod Writing
 pub mod Rows

@@ -1,7 +1,7 @@
 -- What reading means, without its ladder. proofs/Reading.antt has the proofs.
 use Prim.Native.Nat.{ℕ, _+_, _-_, _*_, _^_, _≤_, _<_}
 use mathlib.Core.Path.{_≡_}
-use mathlib.Core.Bool.{true}
+use mathlib.Core.Bool.{true, false}
 use mathlib.Core.List.{List}
 use mathlib.Core.Logic.{_⊎_, _↔_}
 use lib.ListN.{length}
@@ -59,10 +59,11 @@ pub record ReadAs (l : Layout) (p : Partitions) (s : List ℕ) (k : Packet) : Ty
 
 pub record Reading : Type 0 where
   pub answered : (l : Layout) (p : Partitions) (s : List ℕ) (k : Packet) → readPacket l p s ≡ answer k → ReadAs l p s k
-  -- what is refused 25, 26 and 11, each exactly then
+  -- what is refused 25, 26, 1 and 11, each exactly then (2: Rows)
   pub another-length : (l : Layout) (p : Partitions) (s : List ℕ) → readPacket l p s ≡ refuse 25
       ↔ (RightLength s → ⊥) ⊎ (RightLength s × RightForm s × (length s < timeEnd (octetsIn s)))
   pub another-form : (l : Layout) (p : Partitions) (s : List ℕ) → readPacket l p s ≡ refuse 26 ↔ RightLength s × (RightForm s → ⊥)
+  pub another-layout : (l : Layout) (p : Partitions) (s : List ℕ) → readPacket l p s ≡ refuse 1 ↔ GoodPacket s × ((l .n ≡ 2 → ⊥) ⊎ (layoutOk l ≡ false))
   pub none-holds : (l : Layout) (p : Partitions) (s : List ℕ) → readPacket l p s ≡ refuse 11 ↔ GoodPacket s × GoodClock l p × NoneHolds p (packetTicks l s)
   -- under 7 bytes no length is right
   pub too-short : (s : List ℕ) → length s < 7 → RightLength s → ⊥
