@@ -9,7 +9,7 @@ use Rattle.rules.specs.Answer.{answer}
 use Rattle.rules.specs.Partitions.{Partitions, totalOf}
 use Rattle.packet_rules.specs.declared.PacketHeader.{PacketHeader}
 use Rattle.packet_rules.specs.declared.TimeOctets.{TimeOctets}
-use Rattle.packet_rules.specs.Header.{timeEnd}
+use Rattle.packet_rules.specs.Header.{largestKind, largestApid, largestFlags, largestSequence, mostCoarse, mostFine, timeEnd}
 use Rattle.packet_rules.specs.Read.{secondModulus}
 use Rattle.packet_rules.specs.Write.{mostDataOctets, dataOctets, packetBytes}
 use Rattle.packet_outcomes.specs.Reading.{GoodClock}
@@ -18,12 +18,12 @@ use Rattle.packet_outcomes.specs.RoundTrip.{Content, write, clockCount}
 -- "26 for octets .. or a header field out of range"
 pub record InRange (h : PacketHeader) (o : TimeOctets) : Type 0 where
   pub coarse-low : 1 ≤ o .coarse
-  pub coarse-high : o .coarse ≤ 4
-  pub fine : o .fine ≤ 3
-  pub kind : h .kind ≤ 1
-  pub apid : h .apid ≤ 2_047
-  pub flags : h .flags ≤ 3
-  pub sequence : h .sequence ≤ 16_383
+  pub coarse-high : o .coarse ≤ mostCoarse
+  pub fine : o .fine ≤ mostFine
+  pub kind : h .kind ≤ largestKind
+  pub apid : h .apid ≤ largestApid
+  pub flags : h .flags ≤ largestFlags
+  pub sequence : h .sequence ≤ largestSequence
 
 pub record Writable (l : Layout) (p : Partitions) (w : Content) (room : ℕ) : Type 0 where
   pub clock : GoodClock l p

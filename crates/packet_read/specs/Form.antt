@@ -9,7 +9,7 @@ use Rattle.rules.specs.Partitions.{Partitions, partitionsIn, endOf}
 use Rattle.encode.specs.Listed.{Listed}
 use Rattle.packet_rules.specs.declared.TimeOctets.{TimeOctets}
 use Rattle.packet_rules.specs.Octets.{bits}
-use Rattle.packet_rules.specs.Header.{octetsIn, timeEnd}
+use Rattle.packet_rules.specs.Header.{mostCoarse, mostFine, octetsIn, timeEnd}
 use Rattle.packet_read.specs.declared.Form.{Form}
 use Rattle.packet_read.specs.declared.Form.the-variants as Forms
 
@@ -24,8 +24,8 @@ octetsOf p = record { coarse = bits 2 2 p + 1; fine = bits 0 2 p }
 -- the time's octets are those of the packet, and all there
 pub record TimeThere (o : TimeOctets) (s : List ℕ) : Type 0 where
   pub octets : o ≡ octetsIn s
-  pub coarse : o .coarse ≤ 4
-  pub fine : o .fine ≤ 3
+  pub coarse : o .coarse ≤ mostCoarse
+  pub fine : o .fine ≤ mostFine
   pub there : timeEnd o ≤ length s
 
 -- partitions whose lengths can be added, none of which holds the largest P

@@ -1,7 +1,7 @@
 -- "CCSDS Space Packets (CCSDS 133.0-B) with a CUC time (CCSDS 301.0-B) as secondary header": where each field of the two headers stands.
 -- The primary header is three words of two octets, high bit first: version 3 bits, type 1, secondary header flag 1, APID 11; sequence
 -- flags 2, sequence count 14; length 16. Behind it stands the P-field: extension 1 bit, time code 3, coarse octets less one 2, fine octets 2.
-use Prim.Native.Nat.{ℕ, _+_, _*_, _^_}
+use Prim.Native.Nat.{ℕ, _+_}
 use mathlib.Core.List.{List}
 use lib.ListN.{getD, take, drop}
 use Rattle.packet_rules.specs.declared.PacketHeader.{PacketHeader}
@@ -42,6 +42,19 @@ headerIn s =
       sequence = bits 0 14 (sequenceControl s);
     }
 
+-- the largest number that each of them has bits for
+abbrev pub largestKind : ℕ
+largestKind = 1
+
+abbrev pub largestApid : ℕ
+largestApid = 2_047
+
+abbrev pub largestFlags : ℕ
+largestFlags = 3
+
+abbrev pub largestSequence : ℕ
+largestSequence = 16_383
+
 -- the P-field is the first octet of the secondary header
 abbrev pub pField : List ℕ → ℕ
 pField s = getD s headerOctets 0
@@ -52,7 +65,14 @@ extension s = bits 7 1 (pField s)
 abbrev pub timeCode : List ℕ → ℕ
 timeCode s = bits 4 3 (pField s)
 
--- "1 to 4 coarse and 0 to 3 fine octets"
+-- "1 to 4 coarse and 0 to 3 fine octets": what the two bits of each hold
+abbrev pub mostCoarse : ℕ
+mostCoarse = 4
+
+abbrev pub mostFine : ℕ
+mostFine = 3
+
+-- as the P-field has them
 abbrev pub octetsIn : List ℕ → TimeOctets
 octetsIn s = record { coarse = bits 2 2 (pField s) + 1; fine = bits 0 2 (pField s) }
 

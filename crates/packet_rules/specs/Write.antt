@@ -12,7 +12,7 @@ use Rattle.rules.specs.Print.{partitionOf, decodedIn, fitting}
 use Rattle.packet_rules.specs.declared.PacketHeader.{PacketHeader}
 use Rattle.packet_rules.specs.declared.TimeOctets.{TimeOctets}
 use Rattle.packet_rules.specs.Octets.{octets}
-use Rattle.packet_rules.specs.Header.{agencyEpoch}
+use Rattle.packet_rules.specs.Header.{largestKind, largestApid, largestFlags, largestSequence, mostCoarse, mostFine, agencyEpoch}
 use Rattle.packet_rules.specs.Read.{acceptedClock, secondModulus}
 
 -- "26 for octets, m or a header field out of range"; "Writing needs m equal to 256^f"
@@ -20,13 +20,13 @@ unfoldable pub writable : PacketHeader → TimeOctets → ℕ → Bool
 writable h o m =
     allOf
     (leb 1 (o .coarse)
-    ∷ leb (o .coarse) 4
-    ∷ leb (o .fine) 3
+    ∷ leb (o .coarse) mostCoarse
+    ∷ leb (o .fine) mostFine
     ∷ eqb m (256 ^ o .fine)
-    ∷ leb (h .kind) 1
-    ∷ leb (h .apid) 2_047
-    ∷ leb (h .flags) 3
-    ∷ leb (h .sequence) 16_383
+    ∷ leb (h .kind) largestKind
+    ∷ leb (h .apid) largestApid
+    ∷ leb (h .flags) largestFlags
+    ∷ leb (h .sequence) largestSequence
     ∷ [])
 
 -- "over 65,536 data octets": P-field, time and the data after it

@@ -8,6 +8,7 @@ use Rattle.base.specs.Scans.{allOf}
 use Rattle.base.proofs.Tests.{all-of-head, all-of-tail}
 use Rattle.packet_rules.specs.declared.PacketHeader.{PacketHeader}
 use Rattle.packet_rules.specs.declared.TimeOctets.{TimeOctets}
+use Rattle.packet_rules.specs.Header.{largestKind, largestApid, largestFlags, largestSequence, mostCoarse, mostFine}
 use Rattle.packet_rules.specs.Write.{writable}
 use Rattle.packet_write.specs.Ready.{OctetsFacts}
 
@@ -30,44 +31,44 @@ module _ (h : PacketHeader) (o : TimeOctets) (m : ℕ) where
   no-coarse x = rw (lt-leb 1 (o .coarse) x)
 
   module _ (a : 1 ≤ o .coarse) where
-    pub many-coarse : 4 < o .coarse → false ≡ writable h o m
+    pub many-coarse : mostCoarse < o .coarse → false ≡ writable h o m
     unfolding writable allOf
-    many-coarse x = rw (le-leb 1 (o .coarse) a, lt-leb (o .coarse) 4 x)
+    many-coarse x = rw (le-leb 1 (o .coarse) a, lt-leb (o .coarse) mostCoarse x)
 
-    module _ (b : o .coarse ≤ 4) where
-      pub many-fine : 3 < o .fine → false ≡ writable h o m
+    module _ (b : o .coarse ≤ mostCoarse) where
+      pub many-fine : mostFine < o .fine → false ≡ writable h o m
       unfolding writable allOf
-      many-fine x = rw (le-leb 1 (o .coarse) a, le-leb (o .coarse) 4 b, lt-leb (o .fine) 3 x)
+      many-fine x = rw (le-leb 1 (o .coarse) a, le-leb (o .coarse) mostCoarse b, lt-leb (o .fine) mostFine x)
 
-      module _ (d : o .fine ≤ 3) (w : ℕ) (ew : w ≡ 256 ^ o .fine) where
+      module _ (d : o .fine ≤ mostFine) (w : ℕ) (ew : w ≡ 256 ^ o .fine) where
         pub another-modulus : (m ≡ w → ⊥) → false ≡ writable h o m
         unfolding writable allOf
-        another-modulus x = rw (le-leb 1 (o .coarse) a, le-leb (o .coarse) 4 b, le-leb (o .fine) 3 d, ← ew, ne-eqb m w x)
+        another-modulus x = rw (le-leb 1 (o .coarse) a, le-leb (o .coarse) mostCoarse b, le-leb (o .fine) mostFine d, ← ew, ne-eqb m w x)
 
         module _ (e : m ≡ w) where
-          pub another-kind : 1 < h .kind → false ≡ writable h o m
+          pub another-kind : largestKind < h .kind → false ≡ writable h o m
           unfolding writable allOf
-          another-kind x = rw (le-leb 1 (o .coarse) a, le-leb (o .coarse) 4 b, le-leb (o .fine) 3 d, ← ew, eq-eqb m w e, lt-leb (h .kind) 1 x)
+          another-kind x = rw (le-leb 1 (o .coarse) a, le-leb (o .coarse) mostCoarse b, le-leb (o .fine) mostFine d, ← ew, eq-eqb m w e, lt-leb (h .kind) largestKind x)
 
-          module _ (f : h .kind ≤ 1) where
-            pub large-apid : 2_047 < h .apid → false ≡ writable h o m
+          module _ (f : h .kind ≤ largestKind) where
+            pub large-apid : largestApid < h .apid → false ≡ writable h o m
             unfolding writable allOf
-            large-apid x = rw (le-leb 1 (o .coarse) a, le-leb (o .coarse) 4 b, le-leb (o .fine) 3 d, ← ew, eq-eqb m w e, le-leb (h .kind) 1 f, lt-leb (h .apid) 2_047 x)
+            large-apid x = rw (le-leb 1 (o .coarse) a, le-leb (o .coarse) mostCoarse b, le-leb (o .fine) mostFine d, ← ew, eq-eqb m w e, le-leb (h .kind) largestKind f, lt-leb (h .apid) largestApid x)
 
-            module _ (g : h .apid ≤ 2_047) where
-              pub large-flags : 3 < h .flags → false ≡ writable h o m
+            module _ (g : h .apid ≤ largestApid) where
+              pub large-flags : largestFlags < h .flags → false ≡ writable h o m
               unfolding writable allOf
               large-flags x =
-                  rw (le-leb 1 (o .coarse) a, le-leb (o .coarse) 4 b, le-leb (o .fine) 3 d, ← ew, eq-eqb m w e, le-leb (h .kind) 1 f, le-leb (h .apid) 2_047 g, lt-leb (h .flags) 3 x)
+                  rw (le-leb 1 (o .coarse) a, le-leb (o .coarse) mostCoarse b, le-leb (o .fine) mostFine d, ← ew, eq-eqb m w e, le-leb (h .kind) largestKind f, le-leb (h .apid) largestApid g, lt-leb (h .flags) largestFlags x)
 
-              pub by-sequence : h .flags ≤ 3 → leb (h .sequence) 16_383 ≡ writable h o m
+              pub by-sequence : h .flags ≤ largestFlags → leb (h .sequence) largestSequence ≡ writable h o m
               unfolding writable allOf
               by-sequence x =
-                  rw (le-leb 1 (o .coarse) a, le-leb (o .coarse) 4 b, le-leb (o .fine) 3 d, ← ew, eq-eqb m w e, le-leb (h .kind) 1 f, le-leb (h .apid) 2_047 g, le-leb (h .flags) 3 x)
-                  (sym (and-true (leb (h .sequence) 16_383)))
+                  rw (le-leb 1 (o .coarse) a, le-leb (o .coarse) mostCoarse b, le-leb (o .fine) mostFine d, ← ew, eq-eqb m w e, le-leb (h .kind) largestKind f, le-leb (h .apid) largestApid g, le-leb (h .flags) largestFlags x)
+                  (sym (and-true (leb (h .sequence) largestSequence)))
 
   pub writable-octets : writable h o m ≡ true → OctetsFacts o
   unfolding writable
   writable-octets t =
       let t1 = all-of-tail _ _ t in
-      record { some-coarse = leb-true 1 (o .coarse) (all-of-head _ _ t); coarse = leb-true (o .coarse) 4 (all-of-head _ _ t1); fine = leb-true (o .fine) 3 (all-of-head _ _ (all-of-tail _ _ t1)) }
+      record { some-coarse = leb-true 1 (o .coarse) (all-of-head _ _ t); coarse = leb-true (o .coarse) mostCoarse (all-of-head _ _ t1); fine = leb-true (o .fine) mostFine (all-of-head _ _ (all-of-tail _ _ t1)) }

@@ -4,6 +4,7 @@ use mathlib.Core.Path.{_≡_}
 use Rattle.rules.specs.Partitions.{Partitions, totalOf}
 use Rattle.decode.specs.Decodable.{Decodable}
 use Rattle.packet_rules.specs.declared.TimeOctets.{TimeOctets}
+use Rattle.packet_rules.specs.Header.{mostCoarse, mostFine}
 
 -- accepted partitions, with their total
 pub record Ready (total : ℕ) (p : Partitions) : Type 0 where
@@ -13,5 +14,5 @@ pub record Ready (total : ℕ) (p : Partitions) : Type 0 where
 -- "1 to 4 coarse and 0 to 3 fine octets"
 pub record OctetsFacts (o : TimeOctets) : Type 0 where
   pub some-coarse : 1 ≤ o .coarse
-  pub coarse : o .coarse ≤ 4
-  pub fine : o .fine ≤ 3
+  pub coarse : o .coarse ≤ mostCoarse
+  pub fine : o .fine ≤ mostFine
