@@ -1,16 +1,20 @@
 use Rattle.packet_walk.proofs.Step.{tail-part, refused-short, left-short, refused-long, left-long, refused-whole, left-whole, tail-open, step-answers, step-bytes, first-answers, first-bytes}
+use native.Mathlib.Omega.{arith}
 use borrow.Author.Needs.{needs}
 use Rattle.packet_walk.proofs.next_packet.Statement.{statement}
 use Rattle.packet_walk.proofs.next_packet.Tie as tie
 
 returns : tie.Need-returns
-returns c = (search (refused-short, needs), search (left-short, needs))
+returns c = (refused-short _ _ _ _ (omega arith), left-short _ _ _ _ (omega arith))
 
 returns-2 : tie.Need-returns-2
 returns-2 c = (search (first-answers, needs), search (first-bytes, needs))
 
 returns-3 : tie.Need-returns-3
-returns-3 c = (search (refused-long, needs), search (left-long, needs))
+returns-3 c = (refused-long _ _ _ _ (omega arith) (omega arith), left-long _ _ _ _ (omega arith) (omega arith))
+
+tail-within : tie.Need-slice-reshare-prefix-is-whole
+tail-within c = search needs
 
 returns-4 : tie.Need-returns-4
 returns-4 c = (search (refused-whole, needs), search (left-whole, needs))
@@ -27,7 +31,7 @@ next-packet-spec =
     (λ c. search needs)
     returns-2
     returns-3
-    (λ c. search needs)
+    tail-within
     (λ c. search (tail-part, needs))
     (λ c κs. search needs)
     (λ c. search needs)
