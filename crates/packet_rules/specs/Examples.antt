@@ -12,10 +12,10 @@ use Rattle.packet_rules.specs.declared.PacketHeader.{PacketHeader}
 use Rattle.packet_rules.specs.declared.TimeOctets.{TimeOctets}
 use Rattle.packet_rules.specs.declared.Packet.{Packet}
 use Rattle.packet_rules.specs.Octets.{bigFrom, octets, bits}
-use Rattle.packet_rules.specs.Header.{wordAt}
+use Rattle.packet_rules.specs.Header.{wordAt, packetLength}
 use Rattle.packet_rules.specs.Read.{formOk, acceptedPacket, ticks, ticksIn, packetAt, readPacket}
 use Rattle.packet_rules.specs.Write.{writable, packetBytes, packetOf, writePacket}
-use Rattle.packet_rules.specs.Walk.{isWhole, left, Found, inChunk, inBuffer, onlyTail, foundIn}
+use Rattle.packet_rules.specs.Walk.{tailRoom, isWhole, left, Found, inChunk, inBuffer, onlyTail, foundIn, nextPacket}
 
 abbrev pub header : ℕ → ℕ → ℕ → ℕ → PacketHeader
 header kind apid flags sequence = record { kind = kind; apid = apid; flags = flags; sequence = sequence }
@@ -186,3 +186,8 @@ walks =
 pub walks-hold : map (λ w. foundIn (length (w .tail)) (w .at) (left (w .tail) (length (w .tail)) (w .chunk) (w .at))) walks ≡ map (λ w. w .found) walks
 unfolding computing bigFrom bits wordAt isWhole left foundIn walk walks
 walks-hold = refl
+
+-- 16 comes before 25; the longest packet fills the buffer
+pub walk-edges : (nextPacket [] 65_543 [] 0 ≡ refuse 16) × (packetLength (0 ∷ 0 ∷ 0 ∷ 0 ∷ 255 ∷ 255 ∷ []) ≡ tailRoom)
+unfolding computing bigFrom wordAt nextPacket
+walk-edges = (refl, refl)
