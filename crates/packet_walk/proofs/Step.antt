@@ -162,7 +162,7 @@ module _ {tail : ℕ} {b : List ℕ} (o : Open tail b) where
             behind : drop (at + (headerOctets - tail)) chunk ≡ drop headerOctets (take tail b ++ drop at chunk)
             behind =
                 let all : length (take tail b) + (headerOctets - tail) ≡ headerOctets = omega (arith, held) in
-                rw (← drop-drop, ← drop-append-add (take tail b), all)
+                rw (← drop-drop (headerOctets - tail) at chunk, ← drop-append-add (take tail b) (drop at chunk) (headerOctets - tail), all)
 
         -- what is written next covers the header
         over-header : (w : List ℕ) → headerOctets ≤ length w → bufferAfter (answer w) mid ≡ bufferAfter (answer w) b
