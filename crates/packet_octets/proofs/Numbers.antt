@@ -12,6 +12,7 @@ use native.Mathlib.Omega.{arith}
 use Rattle.base.proofs.Lists.{drop-next}
 use Rattle.packet_rules.specs.Octets.{bigFrom, bits}
 use Rattle.packet_rules.specs.Header.{wordAt}
+use Rattle.packet_rules.proofs.Lengths.{word-at}
 
 -- a mask of n bits
 module _ (n : ℕ) (small : n < 16) where
@@ -32,8 +33,7 @@ module _ (n : ℕ) (small : n < 16) where
 -- a word of two octets
 module _ (s : List ℕ) (at : ℕ) (there : at + 2 ≤ length s) where
   pub word-is : (a b : ℕ) → a ≡ getD s at 0 → b ≡ getD s (at + 1) 0 → 256 * a + b ≡ wordAt at s
-  unfolding wordAt bigFrom
-  word-is a b e f = sym (rw (drop-next s at 0 (omega arith), drop-next s (at + 1) 0 (omega arith), ← e, ← f) (omega arith))
+  word-is a b e f = rw (e, f) (sym (word-at at s there))
 
 -- a number of n octets, of which i were read
 pub record Read (s : List ℕ) (at n i x : ℕ) : Type 0 where

@@ -1,1 +1,2 @@
+-- Laws of the length of a packet, by its length field.
 pub mod Lengths
