@@ -1,5 +1,5 @@
-//! An independent second reading of the clock rules: document 01, sentence by sentence, and requests 1 to 5 of document
-//! 02, in plain Rust.
+//! An independent second reading of the clock rules: document 01, sentence by sentence, and requests 1 to 5 and 7 of
+//! document 02, in plain Rust.
 //!
 //! Words in quotation marks in the comments are document 01's or a request's. Every public call checks the tables it uses.
 
@@ -22,6 +22,7 @@ mod time;
 
 pub mod generate;
 pub mod host;
+pub mod packet;
 pub mod quotient;
 pub mod random;
 pub mod script;

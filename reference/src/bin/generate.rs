@@ -58,6 +58,7 @@ fn run() -> Result<(), String> {
     eprintln!("{:>8} questions, {} answered, {} bad lines", tally.questions, tally.answered, tally.bad_lines);
     eprintln!("{:>8} kernel texts, {} answered", tally.kernels, tally.kernels_answered);
     eprintln!("{:>8} of raw counters and microseconds, {} answered", tally.raws, tally.raws_answered);
+    eprintln!("{:>8} of packets, {} answered", tally.packets, tally.packets_answered);
     for unexpected in &tally.unexpected {
         eprintln!("unexpected {}", unexpected);
     }

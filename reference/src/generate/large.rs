@@ -1,9 +1,9 @@
 //! Tables as long as they may be, and longer.
 
 use super::catalogue::longest;
-use super::raw;
 use super::tables::total;
 use super::writer::Writer;
+use super::{packets, raw};
 use crate::script::{Question, Tables, MOST_ENTRIES};
 use crate::{Layout, Partitions, Segments};
 
@@ -23,6 +23,7 @@ pub fn all(writer: &mut Writer) {
     writer.load(&tables);
     questions(writer, 24);
     writer.apart(2, raw::most_partitions);
+    writer.apart(7, packets::most_partitions);
     // The clock with the longest prints: stamps of 63 bytes at the front, of 66 at the end.
     writer.layout(&longest());
     for e in [0, total(&tables) - 1, total(&tables)] {
@@ -58,6 +59,7 @@ pub fn all(writer: &mut Writer) {
         questions(writer, 3);
         let rows = writer.tables.start.len();
         writer.apart(3, |writer| raw::too_many_partitions(writer, rows));
+        writer.apart(8, |writer| packets::too_many_partitions(writer, rows));
     }
     writer.segments(Segments { count: &[0], time: &[0], rate: &[10_000] });
     questions(writer, 2);

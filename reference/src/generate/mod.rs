@@ -7,6 +7,7 @@ pub mod host;
 mod kernels;
 mod large;
 mod lines;
+mod packets;
 mod questions;
 mod raw;
 pub mod tables;
@@ -38,6 +39,9 @@ pub fn script(seed: u64, count: u64) -> Vec<u8> {
     // So have raw counters.
     writer.random = Random::new(seed ^ 4 << 32);
     raw::all(&mut writer);
+    // And packets.
+    writer.random = Random::new(seed ^ 7 << 32);
+    packets::all(&mut writer);
     writer.script.pop();
     writer.script
 }
@@ -57,6 +61,7 @@ pub fn fresh(seed: u64, count: u64) -> Vec<u8> {
             writer.any_kernel();
         }
         writer.any_calls(40);
+        writer.any_packets(30);
     }
     writer.script
 }
@@ -70,6 +75,19 @@ pub fn fresh_raw(seed: u64, count: u64) -> Vec<u8> {
     }
     while writer.questions < count {
         writer.any_calls(120);
+    }
+    writer.script
+}
+
+/// A script of random packets, read, written and walked.
+pub fn fresh_packets(seed: u64, count: u64) -> Vec<u8> {
+    let mut writer = Writer::new(seed);
+    writer.raw = true;
+    if writer.random.below(64) == 0 {
+        packets::all(&mut writer);
+    }
+    while writer.questions < count {
+        writer.any_packets(120);
     }
     writer.script
 }

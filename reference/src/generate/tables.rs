@@ -124,7 +124,7 @@ fn any_size(random: &mut Random) -> Vec<u64> {
 }
 
 /// Offsets, a delimiter, and anything in the slots that are not looked at.
-fn fill(random: &mut Random, moduli: &[u64]) -> Layout {
+pub fn fill(random: &mut Random, moduli: &[u64]) -> Layout {
     let mut layout =
         Layout { n: moduli.len() as u64, moduli: [0; 10], offsets: [0; 10], delimiter: random.between(1, 5) as u8 };
     let offsets = random.below(5);
@@ -157,7 +157,7 @@ fn to_a_power(random: &mut Random, modulus: u64) -> Option<u64> {
 }
 
 /// Partitions that break no rule, for a sound layout with P of at least 2.
-fn set_partitions(random: &mut Random, tables: &mut Tables) {
+pub fn set_partitions(random: &mut Random, tables: &mut Tables) {
     let p = p(&tables.layout);
     let rows = if random.chance(3) { random.between(20, 60) } else { random.between(1, 6) };
     let style = random.below(6);

@@ -1,9 +1,11 @@
-//! Writes a script, and remembers the tables and the raw counter in force.
+//! Writes a script, and remembers the tables, the raw counter and the tail in force.
 
 use std::io::Write;
 
+use super::packets::cut;
+use crate::packet::{Header, LONGEST};
 use crate::random::Random;
-use crate::script::{put_bytes, KernelQuestion, Question, Tables};
+use crate::script::{put_bytes, KernelQuestion, Question, Tables, WriteQuestion};
 use crate::{DoubleSegment, Layout, Partitions, RawCounter, Segments};
 
 pub struct Writer {
@@ -11,6 +13,8 @@ pub struct Writer {
     pub script: Vec<u8>,
     pub tables: Tables,
     pub counter: RawCounter,
+    /// The tail that the last answered walk left.
+    pub tail: Vec<u8>,
     /// How many questions were asked, bad lines not counted.
     pub questions: u64,
     /// Whether a line may have bytes that are no plain text.
@@ -20,7 +24,8 @@ pub struct Writer {
 impl Writer {
     pub fn new(seed: u64) -> Writer {
         let (tables, counter) = (Tables::new(), RawCounter::new());
-        Writer { random: Random::new(seed), script: vec![], tables, counter, questions: 0, raw: false }
+        let (random, script, tail) = (Random::new(seed), vec![], vec![]);
+        Writer { random, script, tables, counter, tail, questions: 0, raw: false }
     }
 
     /// Any line, as it is.
@@ -201,8 +206,42 @@ impl Writer {
                 self.number(seconds);
                 self.number(us);
             }
+            Question::ReadPacket(packet) => self.bytes("read-packet ", packet),
+            Question::WritePacket(WriteQuestion { header, e, fill, len, data }) => {
+                let Header { packet_type, apid, flags, sequence, coarse, fine } = header;
+                self.word("write-packet");
+                self.number(packet_type);
+                self.number(apid);
+                self.number(flags);
+                self.number(sequence);
+                self.number(coarse);
+                self.number(fine);
+                self.number(e);
+                self.number(fill);
+                self.number(len);
+                self.bytes(" ", data);
+            }
+            Question::Walk { len, tail, piece } => {
+                self.word("walk");
+                self.number(len);
+                self.number(tail);
+                self.bytes(" ", piece);
+                self.walked(len, tail, piece);
+            }
         }
         self.script.push(10);
+    }
+
+    /// The tail afterwards. "An answered `walk` is asked only with the TAIL that the answered one before it left, or 0."
+    fn walked(&mut self, len: usize, tail: u64, piece: &[u8]) {
+        if len < LONGEST || tail > LONGEST as u64 {
+            return;
+        }
+        assert!(tail == 0 || tail == self.tail.len() as u64, "another tail");
+        self.tail.truncate(tail as usize);
+        self.tail.extend_from_slice(piece);
+        let from: usize = cut(&self.tail).iter().sum();
+        self.tail.drain(..from);
     }
 
     /// Puts a raw counter in force.

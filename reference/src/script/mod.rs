@@ -1,6 +1,7 @@
 //! The case script: its lines, and the session that answers them. README.md states the protocol; words in quotation
 //! marks in this folder are its.
 
+mod adler;
 mod parse;
 mod session;
 mod tables;
@@ -8,14 +9,14 @@ mod tables;
 use std::io::{self, BufRead, Read, Write};
 
 pub(crate) use parse::{hex, number, time};
-pub use parse::{parse, KernelQuestion, Line, Question};
+pub use parse::{parse, KernelQuestion, Line, Question, WriteQuestion};
 pub use session::{put_bytes, Session};
 pub use tables::Tables;
 
 pub const LONGEST_LINE: usize = 140_000;
-/// Of a text or message.
+/// Of a text, a message or a piece of a dump.
 pub const MOST_BYTES: usize = 2_000;
-/// Of a kernel text.
+/// Of a kernel text, a packet or its data.
 pub const MOST_KERNEL: usize = 65_600;
 /// Of a list.
 pub const MOST_ENTRIES: usize = 10_001;
@@ -23,6 +24,8 @@ pub const MOST_ENTRIES: usize = 10_001;
 pub const MOST_LEN: usize = 256;
 /// Of a lent list.
 pub const MOST_LENT: usize = 40;
+/// Of the tail buffer.
+pub const MOST_TAIL: usize = 65_600;
 
 /// Answers a whole script. However long a line is, no more than the longest good one and a byte are kept of it.
 pub fn run(mut input: impl BufRead, mut output: impl Write) -> io::Result<()> {

@@ -1,6 +1,7 @@
 //! Lines to questions and table entries.
 
-use super::{LONGEST_LINE, MOST_BYTES, MOST_KERNEL, MOST_LEN, MOST_LENT};
+use super::{LONGEST_LINE, MOST_BYTES, MOST_KERNEL, MOST_LEN, MOST_LENT, MOST_TAIL};
+use crate::packet::Header;
 use crate::{DoubleSegment, Layout, RawCounter};
 
 /// A good line.
@@ -33,6 +34,9 @@ pub enum Question<'a> {
     RawReset { number: u64, raw: u32 },
     RawRead(u32),
     Microseconds { seconds: u32, us: u32 },
+    ReadPacket(&'a [u8]),
+    WritePacket(WriteQuestion<'a>),
+    Walk { len: usize, tail: u64, piece: &'a [u8] },
 }
 
 #[derive(Clone, Copy)]
@@ -43,7 +47,16 @@ pub struct KernelQuestion<'a> {
     pub text: &'a [u8],
 }
 
-/// Reads a line; none for a bad one. Bytes of a text, message or kernel text go to the buffer.
+#[derive(Clone, Copy)]
+pub struct WriteQuestion<'a> {
+    pub header: Header,
+    pub e: u64,
+    pub fill: u8,
+    pub len: usize,
+    pub data: &'a [u8],
+}
+
+/// Reads a line; none for a bad one. Bytes of a text, message, kernel text or packet go to the buffer.
 pub fn parse<'a>(line: &[u8], buffer: &'a mut [u8; MOST_KERNEL]) -> Option<Line<'a>> {
     if line.len() > LONGEST_LINE {
         return None;
@@ -112,6 +125,26 @@ pub fn parse<'a>(line: &[u8], buffer: &'a mut [u8; MOST_KERNEL]) -> Option<Line<
             let (seconds, us) = (half(words.next()?)?, half(words.next()?)?);
             Line::Ask(Question::Microseconds { seconds, us })
         }
+        b"read-packet" => Line::Ask(Question::ReadPacket(bytes(words.next()?, buffer)?)),
+        b"write-packet" => {
+            let (packet_type, apid) = (byte(words.next()?)?, quarter(words.next()?)?);
+            let (flags, sequence) = (byte(words.next()?)?, quarter(words.next()?)?);
+            let (coarse, fine) = (byte(words.next()?)?, byte(words.next()?)?);
+            let header = Header { packet_type, apid, flags, sequence, coarse, fine };
+            let (e, fill) = (number(words.next()?)?, byte(words.next()?)?);
+            let len = up_to(words.next()?, MOST_LEN)?;
+            Line::Ask(Question::WritePacket(WriteQuestion {
+                header,
+                e,
+                fill,
+                len,
+                data: bytes(words.next()?, buffer)?,
+            }))
+        }
+        b"walk" => {
+            let (len, tail) = (up_to(words.next()?, MOST_TAIL)?, number(words.next()?)?);
+            Line::Ask(Question::Walk { len, tail, piece: bytes(words.next()?, &mut buffer[..MOST_BYTES])? })
+        }
         _ => return None,
     };
     match words.next() {
@@ -138,6 +171,11 @@ fn byte(word: &[u8]) -> Option<u8> {
 /// "RAW, SECONDS and US are 0 to 2^32 - 1".
 fn half(word: &[u8]) -> Option<u32> {
     u32::try_from(number(word)?).ok()
+}
+
+/// "APID and SEQUENCE 0 to 65,535".
+fn quarter(word: &[u8]) -> Option<u16> {
+    u16::try_from(number(word)?).ok()
 }
 
 /// A length.

@@ -3,8 +3,10 @@
 use std::io::{self, Write};
 
 use super::{
-    parse, KernelQuestion, Line, Question, Tables, LONGEST_LINE, MOST_ENTRIES, MOST_KERNEL, MOST_LEN, MOST_LENT,
+    adler, parse, KernelQuestion, Line, Question, Tables, WriteQuestion, LONGEST_LINE, MOST_ENTRIES, MOST_KERNEL,
+    MOST_LEN, MOST_LENT, MOST_TAIL,
 };
+use crate::packet::{self, Packet};
 use crate::{
     back, count_at, forward, microseconds, print_count, print_stamp, read_kernel, read_message, read_stamp, read_text,
     steps_back, time_of, RawCounter, Refusal,
@@ -15,12 +17,15 @@ pub struct Session {
     pub tables: Tables,
     /// "The script has one raw counter; at the start it has seen no reset."
     pub counter: RawCounter,
+    /// "The script has one tail buffer of 65,600 zeros".
+    tail: Box<[u8; MOST_TAIL]>,
     buffer: Box<[u8; MOST_KERNEL]>,
 }
 
 impl Session {
     pub fn new() -> Session {
-        Session { tables: Tables::new(), counter: RawCounter::new(), buffer: Box::new([0; MOST_KERNEL]) }
+        let (tail, buffer) = (Box::new([0; MOST_TAIL]), Box::new([0; MOST_KERNEL]));
+        Session { tables: Tables::new(), counter: RawCounter::new(), tail, buffer }
     }
 
     /// One line without its byte 10; its answer, if it has one, is added to the output.
@@ -30,6 +35,7 @@ impl Session {
             return;
         }
         let done = match parse(line, &mut self.buffer) {
+            Some(Line::Ask(Question::Walk { len, tail, piece })) => walked(output, &mut self.tail[..len], tail, piece),
             Some(good) => self.tables.take(&mut self.counter, good, output),
             None => false,
         };
@@ -104,6 +110,13 @@ impl Tables {
                 counted(output, result, counter)
             }
             Question::Microseconds { seconds, us } => plain(output, microseconds(seconds, us)),
+            Question::ReadPacket(bytes) => plain(output, packet::read(layout, partitions, bytes).map(fields)),
+            Question::WritePacket(WriteQuestion { header, e, fill, len, data }) => {
+                let mut lent = [fill; MOST_LEN];
+                let result = packet::write(layout, partitions, &header, e, data, &mut lent[..len]);
+                printed(output, result, &lent[..len])
+            }
+            Question::Walk { .. } => unreachable!("a walk asks no tables"),
         };
         written.expect("a vector takes all bytes");
     }
@@ -126,6 +139,23 @@ fn plain<T: std::fmt::Display>(output: &mut Vec<u8>, result: Result<T, Refusal>)
         Ok(answer) => writeln!(output, "ok {}", answer),
         Err(refusal) => writeln!(output, "refused {}", refusal),
     }
+}
+
+/// "TYPE APID FLAGS SEQUENCE COARSE FINE DATA COUNT ENCODED".
+fn fields(packet: Packet) -> String {
+    let Packet { header, data, count, encoded } = packet;
+    let packet::Header { packet_type, apid, flags, sequence, coarse, fine } = header;
+    format!("{} {} {} {} {} {} {} {} {}", packet_type, apid, flags, sequence, coarse, fine, data, count, encoded)
+}
+
+/// "the tail's length and sum afterwards and, for each whole packet in order, LENGTH:SUM". Always a good line.
+fn walked(output: &mut Vec<u8>, lent: &mut [u8], tail: u64, piece: &[u8]) -> bool {
+    let mut packets = String::new();
+    let give = |packet: &[u8]| packets += &format!(" {}:{}", packet.len(), adler::sum(packet));
+    let result = packet::walk(lent, tail, piece, give);
+    let answer = result.map(|tail| format!("{} {}{}", tail, adler::sum(&lent[..tail]), packets));
+    plain(output, answer).expect("a vector takes all bytes");
+    true
 }
 
 /// With the whole buffer afterwards.

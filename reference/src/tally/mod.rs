@@ -1,8 +1,10 @@
 //! Counts what a script brings up: each call's outcomes, each clause of a refusal and of its place, each rule of the tables
 //! broken alone. The clauses, rules and places are found here a second time, from the question and the tables, not by the
-//! library. For kernel text the comment before a question says what it breaks, and where; for raw counters it says so too.
+//! library. For kernel text the comment before a question says what it breaks, and where; for raw counters and
+//! packets it says so too.
 
 mod host;
+mod packets;
 mod raw;
 mod tables;
 mod text;
@@ -38,10 +40,13 @@ pub struct Tally {
     /// Questions about raw counters and microseconds, and those of them answered.
     pub raws: u64,
     pub raws_answered: u64,
-    /// What they show. A question may have several.
+    /// Questions about packets, and those of them answered.
+    pub packets: u64,
+    pub packets_answered: u64,
+    /// What questions about raw counters, microseconds and packets show. A question may have several.
     pub counters: BTreeMap<String, u64>,
     /// Comments that say another outcome, with the outcome; prints of another length; other places; other answers of raw
-    /// counters and microseconds.
+    /// counters, microseconds and packets.
     pub unexpected: Vec<String>,
 }
 
@@ -52,6 +57,7 @@ pub fn tally(script: &[u8]) -> Tally {
     let mut answer = vec![];
     let mut comment = String::new();
     let mut memory = raw::Memory::default();
+    let mut walks = packets::Memory::default();
     for line in script.split(|&byte| byte == 10) {
         answer.clear();
         let before = session.counter;
@@ -64,7 +70,17 @@ pub fn tally(script: &[u8]) -> Tally {
                 question @ (Question::RawReset { .. } | Question::RawRead(_) | Question::Microseconds { .. }),
             )) => {
                 let expected = raw::expected(&mut memory, &session.tables, before, &question);
-                tally.note_raw(&comment, &session.tables, question, expected, &answer);
+                let answered = tally.note_call(&comment, &session.tables, question, expected, &answer);
+                tally.raws += 1;
+                tally.raws_answered += u64::from(answered);
+            }
+            Some(Line::Ask(
+                question @ (Question::ReadPacket(_) | Question::WritePacket(_) | Question::Walk { .. }),
+            )) => {
+                let expected = packets::expected(&mut walks, &session.tables, &question);
+                let answered = tally.note_call(&comment, &session.tables, question, expected, &answer);
+                tally.packets += 1;
+                tally.packets_answered += u64::from(answered);
             }
             Some(Line::Ask(question)) => tally.note(&session.tables, question, &answer),
             _ => tally.bad_lines += 1,
@@ -169,8 +185,15 @@ impl Tally {
         *self.outcomes.entry(["read-kernel ", word, outcome, &clause].concat()).or_insert(0) += 1;
     }
 
-    /// The comment has the outcome, a colon and what it is about.
-    fn note_raw(&mut self, comment: &str, tables: &Tables, question: Question, expected: raw::Expected, answer: &[u8]) {
+    /// The comment has the outcome, a colon and what it is about. True if the call answered.
+    fn note_call(
+        &mut self,
+        comment: &str,
+        tables: &Tables,
+        question: Question,
+        expected: raw::Expected,
+        answer: &[u8],
+    ) -> bool {
         let answer = String::from_utf8_lossy(answer);
         let answer = answer.trim_end();
         let call = name(&question);
@@ -178,9 +201,8 @@ impl Tally {
             self.unexpected.push(format!("{}: {}, not {}", call, answer, expected.answer));
         }
         self.questions += 1;
-        self.raws += 1;
         let words: Vec<&str> = answer.split(' ').collect();
-        // A refusal's number, and with it its place; the state stands behind them.
+        // A refusal's number, and with it its place; the state or the buffer stands behind them.
         let (outcome, found) = match words[..] {
             ["refused", "2", place, ..] => ("refused 2".to_string(), ["2 ", place].concat()),
             ["refused", number, ..] => (["refused ", number].concat(), number.to_string()),
@@ -188,7 +210,6 @@ impl Tally {
         };
         if found == "ok" {
             self.answered += 1;
-            self.raws_answered += 1;
         } else if ["1", "2"].contains(&words[1]) {
             let (_, labels) = self.refused(tables, &question, words[1]);
             for label in labels {
@@ -204,6 +225,7 @@ impl Tally {
         for show in expected.shows {
             *self.counters.entry([call, " ", &show].concat()).or_insert(0) += 1;
         }
+        found == "ok"
     }
 
     fn rule(&mut self, fault: &'static str) {
@@ -241,6 +263,9 @@ fn name(question: &Question) -> &'static str {
         Question::RawReset { .. } => "raw-reset",
         Question::RawRead(_) => "raw-read",
         Question::Microseconds { .. } => "microseconds",
+        Question::ReadPacket(_) => "read-packet",
+        Question::WritePacket(_) => "write-packet",
+        Question::Walk { .. } => "walk",
     }
 }
 

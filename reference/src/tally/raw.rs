@@ -62,7 +62,7 @@ fn accepted(
 }
 
 /// "1, 2", with the place.
-fn faults(tables: &Tables) -> Option<String> {
+pub fn faults(tables: &Tables) -> Option<String> {
     if !layout_faults(tables).is_empty() {
         return Some("1".to_string());
     }
@@ -70,7 +70,7 @@ fn faults(tables: &Tables) -> Option<String> {
 }
 
 /// The sums of the lengths of the first so many rows, from none.
-fn sums(tables: &Tables) -> Vec<u128> {
+pub fn sums(tables: &Tables) -> Vec<u128> {
     let mut sums = vec![0];
     for (start, end) in tables.start.iter().zip(&tables.end) {
         sums.push(sums[sums.len() - 1] + u128::from(*end) - u128::from(*start));

@@ -10,8 +10,8 @@ mod prints;
 mod rules;
 mod texts;
 
-use super::raw;
 use super::writer::Writer;
+use super::{packets, raw};
 use crate::script::Tables;
 use crate::Layout;
 pub use prints::longest;
@@ -21,6 +21,7 @@ pub fn all(writer: &mut Writer) {
     writer.line(b"# before any table");
     writer.each_question();
     writer.apart(1, raw::before_tables);
+    writer.apart(6, packets::before_tables);
     writer.line(b"# examples and readings");
     examples::all(writer);
     writer.line(b"# texts");

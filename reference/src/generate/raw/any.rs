@@ -174,7 +174,7 @@ impl Writer {
     }
 
     /// Segments stay as they are.
-    fn load_raw(&mut self, tables: Tables) {
+    pub fn load_raw(&mut self, tables: Tables) {
         let Tables { count, time, rate, .. } = self.tables.clone();
         self.load(&Tables { count, time, rate, ..tables });
     }

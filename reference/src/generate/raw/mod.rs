@@ -94,7 +94,7 @@ impl Writer {
 
     /// A question with a comment before it: the outcome it must have (`ok` or a refusal's number and place), a colon, what
     /// it is about.
-    fn labelled(&mut self, label: &str, question: Question) {
+    pub fn labelled(&mut self, label: &str, question: Question) {
         if !self.raw {
             self.line(["# ", label].concat().as_bytes());
         }
@@ -113,8 +113,8 @@ impl Writer {
         self.labelled(label, Question::Microseconds { seconds, us });
     }
 
-    /// Puts a layout and partitions in force; segments, which no raw counter asks, stay as they are.
-    fn load_partitions(&mut self, layout: Layout, partitions: &[(u64, u64)]) {
+    /// Puts a layout and partitions in force; segments, which no raw counter and no packet asks, stay as they are.
+    pub fn load_partitions(&mut self, layout: Layout, partitions: &[(u64, u64)]) {
         let mut tables = Tables { layout, ..self.tables.clone() };
         tables.start = partitions.iter().map(|row| row.0).collect();
         tables.end = partitions.iter().map(|row| row.1).collect();
