@@ -1,6 +1,6 @@
 //! The generator brings up every outcome, and the stored samples are its.
 
-use reference::generate::{fresh, fresh_kernels, fresh_raw, script, tables, STORED_COUNT, STORED_SEED};
+use reference::generate::{fresh, fresh_kernels, fresh_packets, fresh_raw, script, tables, STORED_COUNT, STORED_SEED};
 use reference::random::Random;
 use reference::script::answers;
 use reference::steps_back;
@@ -92,6 +92,24 @@ fn outcomes() -> Vec<String> {
             vec!["1|2|27|12, past the total|12, past 2^64"],
         ),
         ("microseconds", "ok, carried|ok, not carried", vec!["24"]),
+        (
+            "read-packet",
+            "ok, a whole number of ticks|ok, rounded down",
+            vec![
+                "25, under seven bytes|25, too short|25, too long|26, a version|26, no secondary header|26, an extension\
+                 |26, a time code|26, several|25, a time past the data|25, several|1, a layout|1, not two fields|2\
+                 |11, in none|11, beyond 64 bits",
+            ],
+        ),
+        (
+            "write-packet",
+            "ok",
+            vec![
+                "1, a layout|1, not two fields|2|26, type|26, APID|26, sequence flags|26, sequence count\
+                 |26, coarse octets|26, fine octets|26, m|26, several|12|9|16",
+            ],
+        ),
+        ("walk", "ok", vec!["16|25"]),
     ] {
         all.extend(answers.split('|').map(|answer| format!("{} {}", call, answer)));
         all.extend(
@@ -223,6 +241,55 @@ fn counters() -> Vec<String> {
     all
 }
 
+/// What questions about packets show.
+fn packets() -> Vec<String> {
+    let octets = "1 coarse, 0 fine|1 coarse, 1 fine|1 coarse, 2 fine|1 coarse, 3 fine\
+                  |2 coarse, 0 fine|2 coarse, 1 fine|2 coarse, 2 fine|2 coarse, 3 fine\
+                  |3 coarse, 0 fine|3 coarse, 1 fine|3 coarse, 2 fine|3 coarse, 3 fine\
+                  |4 coarse, 0 fine|4 coarse, 1 fine|4 coarse, 2 fine|4 coarse, 3 fine";
+    let reads = "m is 256^f|m below 256^f|m above 256^f|a product beyond 64 bits|the first of several partitions\
+                 |a later partition|a start|an end|an end that is a later start|an offset of the first field\
+                 |an offset of the second field|type 1|data after the time|no data after the time\
+                 |25, by one|25, a time past the data by one|11, one above an end|11, one below a start\
+                 |11, beyond 64 bits, the low 64 bits in a partition\
+                 |25, too short before 26|25, too short before 1|25, too short before 11|26, a version before 25\
+                 |26, no secondary header before 25|26, an extension before 25|26, a time code before 25\
+                 |26, a version before 1|26, no secondary header before 1|26, an extension before 1|26, a time code before 1\
+                 |25, a time past the data before 1|1, a layout before 2|1, not two fields before 2|2 before 11";
+    let writes = "the largest coarse part|an inner end|the total|a later partition|a buffer that fits\
+                  |bytes behind the packet|an offset|no data|12, by one|9, by one|16, by one|16, no buffer\
+                  |1, a layout before 2|1, not two fields before 2|1, a layout before 26|2 before 26|26, m before 12\
+                  |26, m before 9|26, m before 16|26, fine octets before 16|12 before 9|12 before 16|9 before 16";
+    let walks = "an empty tail|a tail within a header|a tail of a header|a tail beyond a header|leaves an empty tail\
+                 |leaves a tail within a header|leaves a tail of a header|leaves a tail beyond a header|a tail left behind\
+                 |after a refusal|the shortest buffer|a longer buffer|an empty piece|a piece of one byte|no packet\
+                 |one packet|several packets|a packet ends at the cut|a packet that began in the tail\
+                 |a packet that began in the tail ends at the cut|a packet over several pieces|16, by one\
+                 |16, a tail beyond the buffer|16 before 25|25, by one|25, within a longer buffer";
+    let mut all = vec![];
+    for (call, lists) in
+        [("read-packet", vec![octets, reads]), ("write-packet", vec![octets, writes]), ("walk", vec![walks])]
+    {
+        all.extend(lists.iter().flat_map(|list| list.split('|')).map(|show| format!("{} {}", call, show)));
+    }
+    all
+}
+
+/// Long lines, so there are few: data octets over 65,536, alone and with other faults. Also each number of bytes under seven.
+const RARE_PACKETS: &[&str] = &[
+    "write-packet 25 before 12",
+    "write-packet 25 before 9",
+    "write-packet 25 before 16",
+    "write-packet 26, APID before 25",
+    "read-packet 0 bytes",
+    "read-packet 1 bytes",
+    "read-packet 2 bytes",
+    "read-packet 3 bytes",
+    "read-packet 4 bytes",
+    "read-packet 5 bytes",
+    "read-packet 6 bytes",
+];
+
 /// A rule as the clause of a kernel text's refusal.
 fn kernel_rule(rule: &str) -> String {
     ["read-kernel refused ", &rule.replacen(": ", ", ", 1)].concat()
@@ -239,8 +306,13 @@ fn every_outcome_comes_up() {
     assert!(tally.kernels_answered * 100 >= tally.kernels * 40, "{} of {}", tally.kernels_answered, tally.kernels);
     assert!(tally.raws >= 10_000);
     assert!(tally.raws_answered * 100 >= tally.raws * 50, "{} of {}", tally.raws_answered, tally.raws);
+    assert!(tally.packets >= 8_000);
+    assert!(tally.packets_answered * 100 >= tally.packets * 40, "{} of {}", tally.packets_answered, tally.packets);
     assert!(tally.unexpected.is_empty(), "{:?}", tally.unexpected);
-    assert!(script.len() + answers(&script).len() < 12_500_000, "{} bytes", script.len());
+    let expected = answers(&script);
+    assert!(script.len() + expected.len() < 15_500_000, "{} bytes", script.len());
+    // "No answer has more than 8,192 bytes."
+    assert!(expected.split(|&byte| byte == 10).all(|answer| answer.len() <= 8_192));
     let mut outcomes = outcomes();
     outcomes.extend(kernels(KERNELS));
     outcomes.extend(RULES.iter().filter(|rule| !NO_KERNEL.contains(rule)).map(|rule| kernel_rule(rule)));
@@ -256,11 +328,15 @@ fn every_outcome_comes_up() {
         let times = tally.places.get(label).copied().unwrap_or(0);
         assert!(times >= FEWEST, "{} samples of place {}", times, label);
     }
-    for show in &counters() {
+    for show in counters().iter().chain(&packets()) {
         let times = tally.counters.get(show).copied().unwrap_or(0);
         assert!(times >= FEWEST, "{} samples that show {}", times, show);
     }
-    let rare = kernels(RARE);
+    for show in RARE_PACKETS {
+        assert!(tally.counters.contains_key(*show), "no sample that shows {}", show);
+    }
+    let mut rare = kernels(RARE);
+    rare.push("write-packet refused 25".to_string());
     for outcome in &rare {
         assert!(tally.outcomes.contains_key(outcome), "no sample of {}", outcome);
     }
@@ -318,6 +394,30 @@ fn random_calls_of_raw_counters() {
     }
     let tally = reference::tally::tally(&fresh(9, 20_000));
     assert!(tally.raws > 1_000 && tally.raws_answered > 500, "{} of {}", tally.raws_answered, tally.raws);
+}
+
+/// Random packets: of every kind, answered in the main, and each answer found a second time.
+#[test]
+fn random_packets() {
+    assert!(fresh_packets(7, 500) == fresh_packets(7, 500));
+    let (mut asked, mut answered) = (0, 0);
+    for seed in 0..60 {
+        let script = fresh_packets(seed, 1_000);
+        let tally = tally(&script);
+        assert!(tally.packets >= 1_000 && tally.packets == tally.questions);
+        assert!(tally.unexpected.is_empty(), "{:?}", tally.unexpected);
+        asked += tally.packets;
+        answered += tally.packets_answered;
+    }
+    assert!(answered * 100 > asked * 50, "{} of {}", answered, asked);
+    let tally = tally(&fresh_packets(9, 20_000));
+    let calls = ["read-packet", "write-packet", "walk"];
+    for outcome in outcomes().iter().filter(|outcome| calls.iter().any(|call| outcome.starts_with(call))) {
+        assert!(tally.outcomes.contains_key(outcome), "no question of {}", outcome);
+    }
+    assert!(tally.outcomes.contains_key("write-packet refused 25"));
+    let tally = reference::tally::tally(&fresh(9, 20_000));
+    assert!(tally.packets > 1_000 && tally.packets_answered > 500, "{} of {}", tally.packets_answered, tally.packets);
 }
 
 #[test]

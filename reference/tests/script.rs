@@ -212,3 +212,87 @@ fn kernel_lines() {
     assert_eq!(ask(&line(140_000)), ok);
     assert_eq!(ask(&line(140_001)), "bad line\n");
 }
+
+/// A two-field clock of 256 subticks, offsets 0 and 1, and a partition of 0 to 1,000.
+const CLOCK: &str = "layout 2 1 1000 256 0 0 0 0 0 0 0 0 0 1 0 0 0 0 0 0 0 0\npartitions\nstart 0\nend 1000\n";
+
+#[test]
+fn packet_questions() {
+    let ask_clock = |questions: &str| ask(&[CLOCK, questions].concat());
+    assert_eq!(ask_clock("read-packet 0800c0000002210100"), "ok 0 0 3 0 1 1 9 256 256\n");
+    assert_eq!(
+        ask_clock(
+            "read-packet .\nread-packet 0800000000002f\nread-packet 0800000000003f\nread-packet 0800000000012004"
+        ),
+        "refused 25\nrefused 25\nrefused 26\nrefused 11\n"
+    );
+    assert_eq!(ask("read-packet 0800000000012004\nwrite-packet 0 0 0 0 1 1 0 7 2 ."), "refused 1\nrefused 1 0707\n");
+    assert_eq!(ask_clock("write-packet 0 0 0 0 1 1 5 119 9 .\n"), "ok 9 080000000002210005\n");
+    assert_eq!(ask_clock("write-packet 1 2047 3 16383 1 1 5 0 11 ff\n"), "ok 10 1fffffff0003210005ff00\n");
+    assert_eq!(
+        ask_clock(
+            "write-packet 2 0 0 0 1 1 5 1 2 .\nwrite-packet 0 0 0 0 1 1 1001 1 0 .\nwrite-packet 0 0 0 0 1 1 5 1 8 .\n"
+        ),
+        "refused 26 0101\nrefused 12 .\nrefused 16 0101010101010101\n"
+    );
+    // The place stands directly behind the number.
+    assert_eq!(
+        ask_clock("start 5\nend 5\nread-packet 0800000000012000\nwrite-packet 0 0 0 0 1 1 5 16 2 .\nwrite-packet 0 0 0 0 1 1 5 1 0 .\n"),
+        "refused 2 1\nrefused 2 1 1010\nrefused 2 1 .\n"
+    );
+    // The largest numbers of a line.
+    assert_eq!(ask_clock("write-packet 255 65535 255 65535 255 255 18446744073709551615 255 1 ."), "refused 26 ff\n");
+}
+
+/// Sums are Adler-32; no tables are asked.
+#[test]
+fn walk_questions() {
+    assert_eq!(ask("walk 65542 0 .\nwalk 0 0 .\nwalk 65600 65600 ."), "ok 0 00000001\nrefused 16\nrefused 25\n");
+    // Six 0 and `abc`; a refusal leaves the tail.
+    assert_eq!(
+        ask("walk 65542 0 000000000000616263\nwalk 65541 2 7a7a\nwalk 65542 18446744073709551615 7a7a\n\
+             walk 65542 2 00000000\nwalk 65600 6 21\n"),
+        "ok 2 012900c6 7:00680062\nrefused 16\nrefused 25\nok 6 044100c6\nok 0 00000001 7:052800e7\n"
+    );
+    // Two packets, one of them a text of 9 bytes behind its header.
+    assert_eq!(
+        ask("walk 65542 0 0000000000005700000000000857696b697065646961"),
+        "ok 0 00000001 7:005e0058 15:123c03a0\n"
+    );
+}
+
+/// Numbers outside their range, words too few and too many, bytes too many: bad lines, nothing is changed.
+#[test]
+fn packet_lines() {
+    for line in [
+        "read-packet",
+        "read-packet 0",
+        "read-packet 08 00",
+        "write-packet 0 0 0 0 1 1 5 0 16",
+        "write-packet 0 0 0 0 1 1 5 0 16 . .",
+        "write-packet 256 0 0 0 1 1 5 0 16 .",
+        "write-packet 0 65536 0 0 1 1 5 0 16 .",
+        "write-packet 0 0 256 0 1 1 5 0 16 .",
+        "write-packet 0 0 0 65536 1 1 5 0 16 .",
+        "write-packet 0 0 0 0 256 1 5 0 16 .",
+        "write-packet 0 0 0 0 1 256 5 0 16 .",
+        "write-packet 0 0 0 0 1 1 18446744073709551616 0 16 .",
+        "write-packet 0 0 0 0 1 1 5 256 16 .",
+        "write-packet 0 0 0 0 1 1 5 0 257 .",
+        "walk 65542 2",
+        "walk 65601 2 .",
+        "walk 65542 18446744073709551616 .",
+        "walk 65542 2 . .",
+        "walk 65542 -2 .",
+    ] {
+        let script = ["walk 65542 0 6263\n", line, "\nwalk 65542 2 00000000\n"].concat();
+        assert_eq!(ask(&script), "ok 2 012900c6\nbad line\nok 6 044100c6\n", "{}", line);
+    }
+    let bytes = |count: usize| "00".repeat(count);
+    assert_eq!(ask(&["read-packet ", &bytes(65_600)].concat()), "refused 25\n");
+    assert_eq!(ask(&["read-packet ", &bytes(65_601)].concat()), "bad line\n");
+    assert_eq!(ask(&["write-packet 0 0 0 0 1 1 5 0 1 ", &bytes(65_600)].concat()), "refused 1 00\n");
+    assert_eq!(ask(&["write-packet 0 0 0 0 1 1 5 0 1 ", &bytes(65_601)].concat()), "bad line\n");
+    assert_eq!(ask(&["walk 65541 0 ", &bytes(2_000)].concat()), "refused 16\n");
+    assert_eq!(ask(&["walk 65541 0 ", &bytes(2_001)].concat()), "bad line\n");
+}

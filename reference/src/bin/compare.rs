@@ -3,15 +3,15 @@
 use std::io::{Read, Write};
 use std::process::{Command, ExitCode, Stdio};
 
-use reference::generate::{fresh, fresh_kernels, fresh_raw, put_counter, put_tables};
+use reference::generate::{fresh, fresh_kernels, fresh_packets, fresh_raw, put_counter, put_tables};
 use reference::random::Random;
-use reference::script::{answers, Session};
+use reference::script::{answers, parse, Line, Question, Session, MOST_KERNEL};
 
-const USAGE: &str = "compare --program PATH --seed S --questions N [--only kernel|raw]";
+const USAGE: &str = "compare --program PATH --seed S --questions N [--only kernel|raw|packet]";
 /// Questions asked of one run of the program.
 const CHUNK: u64 = 25_000;
-/// Kernel texts are longer.
-const KERNELS: u64 = 10_000;
+/// Kernel texts and pieces of dumps are longer.
+const LONG: u64 = 10_000;
 
 fn main() -> ExitCode {
     match run() {
@@ -35,7 +35,7 @@ fn run() -> Result<u64, String> {
             "--program" => program = Some(value),
             "--seed" => seed = Some(value.parse::<u64>().map_err(|_| USAGE)?),
             "--questions" => questions = Some(value.parse::<u64>().map_err(|_| USAGE)?),
-            "--only" if value == "kernel" || value == "raw" => only = value,
+            "--only" if ["kernel", "raw", "packet"].contains(&value.as_str()) => only = value,
             _ => return Err(USAGE.to_string()),
         }
     }
@@ -44,10 +44,12 @@ fn run() -> Result<u64, String> {
     let mut seeds = Random::new(seed);
     let mut compared = 0;
     while left > 0 {
-        let (chunk_seed, asked) = (seeds.word(), left.min(if only == "kernel" { KERNELS } else { CHUNK }));
+        let long = only == "kernel" || only == "packet";
+        let (chunk_seed, asked) = (seeds.word(), left.min(if long { LONG } else { CHUNK }));
         let script = match only.as_str() {
             "kernel" => fresh_kernels(chunk_seed, asked),
             "raw" => fresh_raw(chunk_seed, asked),
+            "packet" => fresh_packets(chunk_seed, asked),
             _ => fresh(chunk_seed, asked),
         };
         let (expected, given) = ask(&program, &script)?;
@@ -82,30 +84,45 @@ fn ask(program: &str, script: &[u8]) -> Result<(Vec<u8>, Vec<u8>), String> {
     Ok((expected, given))
 }
 
-/// The first answer that differs, with its question and the tables and raw counter in force.
+/// The first answer that differs, with its question and the tables and raw counter in force; for a walk also the walks since
+/// the last from an empty tail.
 fn difference(script: &[u8], given: &[u8]) -> String {
     let mut session = Session::new();
     let mut given = given.split(|&byte| byte == 10);
     let mut answer = vec![];
+    let mut buffer = [0; MOST_KERNEL];
+    let mut walks: Vec<&[u8]> = vec![];
     for (number, line) in script.split(|&byte| byte == 10).enumerate() {
         answer.clear();
-        let before = session.counter;
+        let counter = session.counter;
         session.line(line, &mut answer);
         if answer.is_empty() {
             continue;
         }
         answer.pop();
         let other = given.next().unwrap_or(b"no answer");
+        let walk = match parse(line, &mut buffer) {
+            Some(Line::Ask(Question::Walk { tail, .. })) => Some(tail),
+            _ => None,
+        };
+        if walk == Some(0) {
+            walks.clear();
+        }
         if answer != other {
+            let before = if walk.is_some() { walks.join(&10) } else { vec![] };
             return format!(
-                "{}{}{}\n# line {} of the chunk\n# the library: {}\n# the program: {}",
+                "{}{}{}\n{}\n# line {} of the chunk\n# the library: {}\n# the program: {}",
                 String::from_utf8_lossy(&put_tables(&session.tables)),
-                put_counter(before),
+                put_counter(counter),
+                String::from_utf8_lossy(&before),
                 String::from_utf8_lossy(line),
                 number + 1,
                 String::from_utf8_lossy(&answer),
                 String::from_utf8_lossy(other),
             );
+        }
+        if walk.is_some() {
+            walks.push(line);
         }
     }
     "the program answers more lines than were asked".to_string()

@@ -2,6 +2,7 @@
 
 mod host;
 mod list;
+mod packets;
 
 use std::fs;
 use std::io;
@@ -100,7 +101,7 @@ fn samples_of(package: &Path, place: &Path, program: &'static str) -> Result<Sam
 }
 
 fn mutants() -> impl Iterator<Item = &'static Mutant> {
-    list::MUTANTS.iter().chain(host::MUTANTS)
+    list::MUTANTS.iter().chain(packets::MUTANTS).chain(host::MUTANTS)
 }
 
 /// All, or those whose names begin with one of the words.

@@ -19,11 +19,18 @@ impl Writer {
                 0..=1 => self.any_packet_tables(),
                 2..=4 => self.any_broken_packet_tables(),
                 5 if self.random.chance(30) => self.any_bad_packet_line(),
+                6 if self.raw && self.random.below(20) == 0 => self.any_long_packet(),
                 6..=39 => self.any_read_packet(),
+                // Where m is no power of 256 nothing can be written.
+                40..=69 if !self.any_power() && self.random.chance(80) => self.any_read_packet(),
                 40..=69 => self.any_write_packet(),
                 _ => self.any_walk(),
             }
         }
+    }
+
+    fn any_power(&self) -> bool {
+        (0..4).any(|fine| self.tables.layout.moduli[1] == 1 << (8 * fine))
     }
 
     fn any_read_packet(&mut self) {
@@ -54,7 +61,7 @@ impl Writer {
         draft.apid = random.magnitude(2_047) as u16;
         draft.flags = random.between(0, 3) as u16;
         draft.sequence = random.magnitude(16_383) as u16;
-        for _ in 0..random.pick(&[0, 0, 0, 0, 0, 1, 1, 2]) {
+        for _ in 0..random.pick(&[0, 0, 0, 0, 0, 0, 1, 2]) {
             match random.below(8) {
                 0 => draft.version = random.between(1, 7) as u16,
                 1 => draft.secondary = 0,
@@ -117,6 +124,27 @@ impl Writer {
         let len = random.pick(&[length, length, length + 3, length + 1, near, any, 64]).min(256) as usize;
         let fill = random.word() as u8;
         self.labelled("at random", Question::WritePacket(WriteQuestion { header, e, fill, len, data: &data }));
+    }
+
+    /// As long as packets may be, and around it.
+    fn any_long_packet(&mut self) {
+        let random = &mut self.random;
+        let octets = random.between(65_526, 65_538) as usize;
+        let (coarse, fine) = (random.between(1, 4) as u8, random.between(0, 3) as u8);
+        let data: Vec<u8> = (0..octets).map(|_| random.word() as u8).collect();
+        if random.chance(50) {
+            let (high, low) = (random.magnitude(0xff_ffff), random.below(4));
+            let mut draft = Draft::new((usize::from(coarse), usize::from(fine)), high, 0, &data);
+            draft.length = Some((draft.rest.len() as u64).min(0xffff).wrapping_sub(low as u64 / 3) as u16);
+            self.labelled("at random", Question::ReadPacket(&draft.bytes()));
+        } else {
+            let header = Header { packet_type: 1, apid: 5, flags: 2, sequence: 9, coarse, fine };
+            let e = random.magnitude(E15);
+            self.labelled(
+                "at random",
+                Question::WritePacket(WriteQuestion { header, e, fill: 7, len: 200, data: &data }),
+            );
+        }
     }
 
     /// The tail goes on, or an empty one begins.

@@ -25,34 +25,34 @@ const LISTS: usize = 110;
 
 /// All that is stored: a fixed part, then random ones.
 pub fn all(writer: &mut Writer) {
-    writer.line(b"# packets: examples");
+    writer.line(b"# packets, examples");
     examples::all(writer);
-    writer.line(b"# packets: headers");
+    writer.line(b"# packets, headers");
     reads::headers(writer);
-    writer.line(b"# packets: P-fields and times past the data");
+    writer.line(b"# packets, P-fields and times past the data");
     reads::p_fields(writer);
-    writer.line(b"# packets: lengths");
+    writer.line(b"# packets, lengths");
     reads::lengths(writer);
-    writer.line(b"# packets: ticks");
+    writer.line(b"# packets, ticks");
     reads::ticks(writer);
-    writer.line(b"# packets: partitions and offsets");
+    writer.line(b"# packets, partitions and offsets");
     reads::partitions(writer);
-    writer.line(b"# packets: clocks of other fields");
+    writer.line(b"# packets, clocks of other fields");
     reads::fields(writer);
-    writer.line(b"# packets: written, every range");
+    writer.line(b"# packets, written, every range");
     writes::ranges(writer);
-    writer.line(b"# packets: written, counts and coarse octets");
+    writer.line(b"# packets, written, counts and coarse octets");
     writes::counts(writer);
-    writer.line(b"# packets: written, buffers");
+    writer.line(b"# packets, written, buffers");
     writes::buffers(writer);
-    writer.line(b"# packets: two faults at once");
+    writer.line(b"# packets, two faults at once");
     orders::reading(writer);
     orders::writing(writer);
-    writer.line(b"# packets: walks");
+    writer.line(b"# packets, walks");
     walks::all(writer);
-    writer.line(b"# packets: lines of the script itself");
+    writer.line(b"# packets, lines of the script itself");
     lines::all(writer);
-    writer.line(b"# packets: long ones");
+    writer.line(b"# packets, long ones");
     long::all(writer);
     writer.line(b"# packets at random");
     for _ in 0..LISTS {

@@ -74,8 +74,18 @@ pub fn ranges(writer: &mut Writer) {
             writer.write_packet(label, header(2, fine), 0, ROOM, &[0xab]);
             if fine <= 3 {
                 let e = writer.random.between(1, 50_000 * modulus.min(16_777_216));
-                writer.write_packet(label, header(4, fine), e, ROOM, &[]);
+                // A buffer that is too short comes after 26.
+                let len = if label.starts_with("26") { 4 } else { 32 };
+                writer.write_packet(label, header(4, fine), e, (0xee, len), &[]);
             }
+        }
+    }
+    // Four fine octets would hold 256^4, eight none.
+    for (modulus, fine) in [(1 << 32, 4), (1, 8), (1, 32), (256, 9), (65_536, 34)] {
+        writer.load_whole(60_000, modulus);
+        for e in [0, 1, 258, 59_999] {
+            writer.write_packet("26: over three fine octets", header(4, fine), e, (0xee, 60), &[]);
+            writer.write_packet("26: over three fine octets", Header { fine, ..good }, e, (0xee, 60), b"..");
         }
     }
 }
@@ -112,6 +122,7 @@ pub fn counts(writer: &mut Writer) {
             for e in [total + 1, total + 2, 1 << 63, u64::MAX - 1, u64::MAX] {
                 writer.write_packet("12: above the total", header(coarse, fine), e, ROOM, &[]);
             }
+            writer.write_packet("12: above the total, a short buffer", header(coarse, fine), total + 1, (9, 5), &[]);
         }
     }
     // An inner end is the next start; the total is the last end. Offsets play no part.
