@@ -222,7 +222,7 @@ pub const MUTANTS: &[Mutant] = &[
     mutant("packet-tail-of-32-bits", FILE, TAIL, "    let tail = tail & 0xffff_ffff;\n    let buffer = buffer.get_mut(..LONGEST).ok_or(Refusal::new(16))?;\n    if tail > LONGEST as u64 {\n        return Err(Refusal::new(25));"),
     mutant("packet-16-clears-the-tail", FILE, TAIL, "    if buffer.len() < LONGEST {\n        buffer.fill(0x55);\n    }\n    let buffer = buffer.get_mut(..LONGEST).ok_or(Refusal::new(16))?;\n    if tail > LONGEST as u64 {\n        return Err(Refusal::new(25));"),
     mutant("packet-25-clears-the-tail", FILE, TAIL, "    let buffer = buffer.get_mut(..LONGEST).ok_or(Refusal::new(16))?;\n    if tail > LONGEST as u64 {\n        buffer.fill(0x55);\n        return Err(Refusal::new(25));"),
-    mutant("packet-16-takes-the-piece", FILE, TAIL, "    if let Some(front) = buffer.get_mut(tail.min(1 << 20) as usize..).filter(|behind| behind.len() >= piece.len()) {\n        front[..piece.len()].copy_from_slice(piece);\n    }\n    let buffer = buffer.get_mut(..LONGEST).ok_or(Refusal::new(16))?;\n    if tail > LONGEST as u64 {\n        buffer[..piece.len()].copy_from_slice(piece);\n        return Err(Refusal::new(25));"),
+    mutant("packet-25-takes-the-piece", FILE, TAIL, "    let buffer = buffer.get_mut(..LONGEST).ok_or(Refusal::new(16))?;\n    if tail > LONGEST as u64 {\n        buffer[..piece.len()].copy_from_slice(piece);\n        return Err(Refusal::new(25));"),
     mutant("packet-tail-forgotten", FILE, HELD, "    let mut held = 0;\n"),
     mutant("packet-tail-one-short", FILE, HELD, "    let mut held = tail.saturating_sub(1) as usize;\n"),
     mutant("packet-tail-not-kept", FILE, LEAVES, "    Ok(0)"),
