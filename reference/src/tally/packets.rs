@@ -166,7 +166,7 @@ fn read(tables: &Tables, packet: &[u8]) -> Expected {
     show(ticks == rows[row].1 && holding.iter().any(|&other| ticks == rows[other].0), "an end that is a later start");
     show(layout.offsets[0] > 0, "an offset of the first field");
     show(layout.offsets[1] > 0, "an offset of the second field");
-    show((seconds * unit + part) * m >> 64 > 0, "a product beyond 64 bits");
+    show(((seconds * unit + part) * m) >> 64 > 0, "a product beyond 64 bits");
     show(packet_type == 1, "type 1");
     show(!rest.is_empty(), "data after the time");
     show(rest.is_empty(), "no data after the time");

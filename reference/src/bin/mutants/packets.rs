@@ -212,7 +212,7 @@ pub const MUTANTS: &[Mutant] = &[
     mutant("packet-data-not-written", FILE, DATA, ""),
     mutant("packet-answers-the-data-octets", FILE, "Ok(packet.len())", "Ok(octets)"),
     // Walking.
-    mutant("packet-tail-buffer-of-65541", FILE, TAIL, "    let lent = buffer.len();\n    if lent < LONGEST - 1 {\n        return Err(Refusal::new(16));\n    }\n    let buffer = &mut buffer[..lent.min(LONGEST)];\n    if tail > LONGEST as u64 {\n        return Err(Refusal::new(25));"),
+    mutant("packet-tail-buffer-of-65541", FILE, TAIL, "    let lent = buffer.len();\n    if lent < LONGEST - 1 {\n        return Err(Refusal::new(16));\n    }\n    let buffer = &mut buffer[..lent.min(LONGEST)];\n    if tail > buffer.len() as u64 {\n        return Err(Refusal::new(25));"),
     mutant("packet-tail-buffer-of-65543", FILE, TAIL, "    if buffer.len() <= LONGEST {\n        return Err(Refusal::new(16));\n    }\n    let buffer = buffer.get_mut(..LONGEST).ok_or(Refusal::new(16))?;\n    if tail > LONGEST as u64 {\n        return Err(Refusal::new(25));"),
     mutant("packet-tail-buffer-exact", FILE, TAIL, "    if buffer.len() != LONGEST {\n        return Err(Refusal::new(16));\n    }\n    if tail > LONGEST as u64 {\n        return Err(Refusal::new(25));"),
     mutant("packet-25-before-16", FILE, TAIL, "    if tail > LONGEST as u64 {\n        return Err(Refusal::new(25));\n    }\n    let buffer = buffer.get_mut(..LONGEST).ok_or(Refusal::new(16))?;\n    if tail > LONGEST as u64 {\n        return Err(Refusal::new(25));"),

@@ -186,18 +186,19 @@ pub fn ticks(writer: &mut Writer) {
             }
         }
     }
-    // With 18,446,745 the low 64 bits of the ticks are 926,290,448,384.
     writer.load_whole(u64::MAX, E12);
     for fine in 0..=3 {
-        // So they are within 10^15 for any coarse part a little above a multiple of 2^64 / 10^12.
+        // A little above a multiple of 2^64 / 10^12 the low 64 bits of the ticks are below 10^15.
         let turns = (1..8).map(|turn| (turn << 64) / 1_000_000_000_000u128 + 1 + turn % 3).map(|coarse| coarse as u64);
         for coarse in turns.chain([18_446_744, 0x8000_0000, 0xffff_fffe, 0xffff_ffff]) {
             let label = if coarse == 18_446_744 { "11: ticks past P" } else { "11: ticks beyond 64 bits" };
+            let most = (1 << (8 * fine)) - 1;
             writer.read_packet(label, &Draft::new((4, fine), coarse, 0, &[]).bytes());
+            writer.read_packet(label, &Draft::new((4, fine), coarse, most, b"1").bytes());
         }
-        // Products past 64 bits of ticks that fit.
+        // Ticks that fit; with fine octets the products do not.
         for coarse in [2, 18, 19, 255, 999] {
-            writer.read_packet("ok: a product beyond 64 bits", &Draft::new((2, fine), coarse, 0, &[]).bytes());
+            writer.read_packet("ok: ticks within 64 bits", &Draft::new((2, fine), coarse, 0, &[]).bytes());
         }
     }
     // Low 32 and 40 bits that a partition holds.

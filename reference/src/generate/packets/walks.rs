@@ -13,7 +13,11 @@ fn packet(seed: u8, length: usize) -> Vec<u8> {
 }
 
 fn dump(lengths: &[usize]) -> Vec<u8> {
-    lengths.iter().enumerate().flat_map(|(i, &length)| packet(i as u8 * 29 + 3, length)).collect()
+    lengths
+        .iter()
+        .enumerate()
+        .flat_map(|(i, &length)| packet((i as u8).wrapping_mul(29).wrapping_add(3), length))
+        .collect()
 }
 
 impl Writer {
