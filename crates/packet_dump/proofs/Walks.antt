@@ -4,13 +4,13 @@ use mathlib.Core.Path.{_≡_, refl, sym, ap, _∙_}
 use mathlib.Core.Bool.{true, false}
 use mathlib.Core.List.{List, [], _∷_, _++_, flatten, append-nil, append-assoc}
 use lib.Dec.{leb}
-use Rattle.base.proofs.Tests.{by-test}
 use lib.ListN.{length, take, drop, length-append, length-drop}
 use lib.Seq.{length-take-le, drop-drop, drop-append-add}
 use borrow.Author.Tests.{le-leb, leb-true, leb-false}
 use native.Mathlib.Omega.{arith}
-use Rattle.rules.specs.Answer.{Answer, answer, unless, andThen}
 use Rattle.base.specs.Scans.{all}
+use Rattle.base.proofs.Tests.{by-test}
+use Rattle.rules.specs.Answer.{Answer, answer, unless, andThen}
 use Rattle.packet_rules.specs.Octets.{bigFrom}
 use Rattle.packet_rules.specs.Header.{headerOctets, wordAt, packetLength}
 use Rattle.packet_rules.specs.Walk.{tailRoom, isWhole, left, inChunk, inBuffer, onlyTail, foundIn, nextPacket, tailBufferAfter}

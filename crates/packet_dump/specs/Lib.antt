@@ -3,3 +3,4 @@ pub mod Packets
 pub mod Walks
 pub mod Dump
 pub mod Refusals
+pub mod Examples
