@@ -15,7 +15,7 @@ use packet_rules::WalkStep;
 // The primary header's octets.
 const HEADER: usize = 6;
 
-// The longest packet's octets.
+// The longest packet's octets: the lent buffer has at least so many bytes.
 pub const TAIL_ROOM: usize = 65_542;
 
 // The next whole packet of a tail and a chunk from `at` on, or the tail that they leave. A packet that lies whole in the chunk is
@@ -87,7 +87,7 @@ fn join(buffer: &mut [u8], tail: usize, chunk: &[u8], at: usize) -> WalkStep
         return WalkStep::Tail(joined);
     }
     WalkStep::InBuffer(Joined {
-        length: length,
+        length,
         at: at + (length - tail),
     })
 }
@@ -134,6 +134,7 @@ fn number(high: u8, low: u8) -> usize
     256 * (high as usize) + low as usize
 }
 
+// The lesser of two numbers.
 fn lesser(a: usize, b: usize) -> usize
     ensures { λ r. ⌜ r ≡ min a b ⌝ }
 {
