@@ -69,6 +69,8 @@ reads =
     ∷ read (clock 1_000 256) (upTo 1_000) (31 ∷ 255 ∷ 255 ∷ 255 ∷ 0 ∷ 4 ∷ 33 ∷ 1 ∷ 5 ∷ 7 ∷ 7 ∷ []) (answer (packet (header 1 2_047 3 16_383) (octetsOf 1 1) 9 261 261))
     -- the high octet comes first, in both parts: 258 + 772 / 65,536 of 10 ticks, rounded down
     ∷ read (clock 1_000 10) (upTo 9_000) (8 ∷ 1 ∷ 64 ∷ 2 ∷ 0 ∷ 4 ∷ 38 ∷ 1 ∷ 2 ∷ 3 ∷ 4 ∷ []) (answer (packet (header 0 1 1 2) (octetsOf 2 2) 11 2_580 2_580))
+    -- a tick for each 65,536th: 1 and 256 of them
+    ∷ read (clock 100 65_536) (upTo 600_000) (8 ∷ 0 ∷ 0 ∷ 0 ∷ 0 ∷ 3 ∷ 34 ∷ 1 ∷ 1 ∷ 0 ∷ []) (answer (packet (header 0 0 0 0) (octetsOf 1 2) 10 65_792 65_792))
     -- rounded down: 1 - 1/256 of 10 ticks; no fine octet
     ∷ read (clock 1_000 10) (upTo 9_000) (8 ∷ 0 ∷ 0 ∷ 0 ∷ 0 ∷ 2 ∷ 33 ∷ 0 ∷ 255 ∷ []) (answer (packet (header 0 0 0 0) (octetsOf 1 1) 9 9 9))
     ∷ read (clock 1_000 10) (upTo 9_000) (8 ∷ 0 ∷ 0 ∷ 0 ∷ 0 ∷ 1 ∷ 32 ∷ 7 ∷ []) (answer (packet (header 0 0 0 0) (octetsOf 1 0) 8 70 70))
