@@ -33,9 +33,10 @@ use Rattle.packet_rules.specs.Read.{secondModulus}
 use Rattle.packet_rules.specs.Write.{mostDataOctets, dataOctets, writable, packetBytes, packetOf, writePacket}
 use Rattle.packet_clock.specs.Clock.{clockBasis}
 use Rattle.packet_clock.proofs.Accepted.{clock-refused, clock-facts, clock-accepted}
-use Rattle.packet_write.specs.Ready.{Ready, OctetsFacts}
-use Rattle.packet_write.proofs.Parts.{packet-length}
-use Rattle.packet_write.proofs.Writable.{writable-octets}
+use Rattle.packet_ranges.specs.Octets.{OctetsFacts}
+use Rattle.packet_ranges.proofs.Writable.{writable-octets}
+use Rattle.packet_bytes.proofs.Parts.{packet-length}
+use Rattle.packet_write.specs.Ready.{Ready}
 
 -- a refusal leaves the buffer
 refused-printed : (a : Answer (List ℕ)) (k : Refusal) (b : List ℕ) → a ≡ refused k → Printed a (Prints.Refused k) b b

@@ -1,4 +1,2 @@
--- Laws of a packet's parts written one before the other, of the ranges, and of each way out of writing a packet.
-pub mod Parts
-pub mod Writable
+-- Each way out of writing a packet.
 pub mod Calls

@@ -1,2 +1,2 @@
--- What writing a packet asks of its tables and of the time's octets.
+-- What writing a packet asks of its tables.
 pub mod Ready

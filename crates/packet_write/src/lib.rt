@@ -6,19 +6,22 @@ ghost use Rattle.rules.specs.Answer.{printAnswer};
 ghost use Rattle.rules.specs.Partitions.{partitions};
 ghost use Rattle.rules.specs.Print.{lengthPrinted, bufferAfter};
 ghost use Rattle.buffer_print.specs.Printed.{Printed};
-ghost use Rattle.packet_rules.specs.Write.{writable, packetOf, writePacket};
-ghost use Rattle.packet_write.specs.Ready.{Ready, OctetsFacts};
+ghost use Rattle.packet_rules.specs.Write.{packetOf, writePacket};
+ghost use Rattle.packet_ranges.specs.Octets.{OctetsFacts};
+ghost use Rattle.packet_write.specs.Ready.{Ready};
 use decode::decode;
+use packet_bytes::write_all;
 use packet_clock::accept_clock;
 use packet_octets::above;
+use packet_ranges::is_writable;
 use packet_rules::PacketHeader;
 use packet_rules::TimeOctets;
 use rules::Layout;
 use rules::PrintAnswer;
 use tables::Acceptance;
 
-mod octets;
-mod ranges;
+// P-field, time and the data after it.
+const MOST_DATA_OCTETS: usize = 65_536;
 
 // The packet of an encoded count: the answer is its length. The second modulus must be 256 for each fine octet.
 pub fn write_packet(
@@ -37,7 +40,7 @@ pub fn write_packet(
     let modulus = layout.moduli[1];
     match accept_clock(layout, starts, ends) {
         Acceptance::Accepted(b) => {
-            if !ranges::is_writable(header, octets, modulus) {
+            if !is_writable(header, octets, modulus) {
                 return PrintAnswer::Refused(refusals::PACKET_FORM);
             }
             write_counted(
@@ -71,7 +74,7 @@ fn write_counted(
     ensures { λ r. ⌜ Printed (packetOf (partitions (now (starts .entry)) (now (ends .entry))) header octets encoded (now (payload .entry)) (length (now (buffer .entry)))) r (now (buffer .entry)) (now (buffer .exit)) ⌝ }
 {
     let before = 1 + octets.coarse as usize + octets.fine as usize;
-    if ranges::MOST_DATA_OCTETS - before < payload.len() {
+    if MOST_DATA_OCTETS - before < payload.len() {
         return PrintAnswer::Refused(refusals::PACKET_LENGTH);
     }
     if total < encoded {
@@ -88,6 +91,6 @@ fn write_counted(
     if buffer.len() < end {
         return PrintAnswer::Refused(refusals::BUFFER_TOO_SHORT);
     }
-    octets::write_all(header, octets, units, count, payload, end, buffer);
+    write_all(header, octets, units, count, payload, end, buffer);
     PrintAnswer::Length(end)
 }

@@ -1,6 +1,6 @@
 use borrow.Author.Needs.{needs}
 use Rattle.packet_write.proofs.Calls.{too-many-octets, beyond-total, count-decodable, coarse-too-large, buffer-short, packet-fits}
-use Rattle.packet_write.proofs.Parts.{packet-end, packet-room}
+use Rattle.packet_bytes.proofs.Parts.{packet-end, packet-room}
 use Rattle.packet_write.proofs.write_counted.Statement.{statement}
 use Rattle.packet_write.proofs.write_counted.Tie as tie
 

@@ -5,9 +5,6 @@ ghost use Rattle.packet_rules.specs.Write.{writable};
 use packet_rules::PacketHeader;
 use packet_rules::TimeOctets;
 
-// P-field, time and the data after it.
-pub const MOST_DATA_OCTETS: usize = 65_536;
-
 // Whether the time's octets, the second modulus and each header field are within their ranges.
 pub fn is_writable(header: PacketHeader, octets: TimeOctets, modulus: u64) -> bool
     ensures { λ r. ⌜ r ≡ writable header octets modulus ⌝ }

@@ -7,7 +7,7 @@ ghost use Rattle.decimal.specs.Writing.{Room, Written};
 ghost use Rattle.packet_rules.specs.Octets.{octets as octetsOf};
 ghost use Rattle.packet_rules.specs.Header.{timeEnd};
 ghost use Rattle.packet_rules.specs.Write.{identificationOf, sequenceControlOf, pFieldOf, packetBytes};
-ghost use Rattle.packet_write.specs.Ready.{OctetsFacts};
+ghost use Rattle.packet_ranges.specs.Octets.{OctetsFacts};
 use decimal::write_byte;
 use packet_octets::write_octets;
 use packet_octets::write_part;

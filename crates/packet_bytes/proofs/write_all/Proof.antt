@@ -1,7 +1,7 @@
 use borrow.Author.Needs.{needs}
-use Rattle.packet_write.proofs.Parts.{data-room, front-room, packet-written}
-use Rattle.packet_write.proofs.octets.write_all.Statement.{statement}
-use Rattle.packet_write.proofs.octets.write_all.Tie as tie
+use Rattle.packet_bytes.proofs.Parts.{data-room, front-room, packet-written}
+use Rattle.packet_bytes.proofs.write_all.Statement.{statement}
+use Rattle.packet_bytes.proofs.write_all.Tie as tie
 
 pub write-all-spec : {M : Type 1} → statement M
 write-all-spec =

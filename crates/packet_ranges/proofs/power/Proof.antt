@@ -1,8 +1,8 @@
 use borrow.Author.Needs.{needs}
 use native.Mathlib.Omega.{arith}
-use Rattle.packet_write.proofs.Writable.{power-0, power-1, power-2, power-3}
-use Rattle.packet_write.proofs.ranges.power.Statement.{statement}
-use Rattle.packet_write.proofs.ranges.power.Tie as tie
+use Rattle.packet_ranges.proofs.Writable.{power-0, power-1, power-2, power-3}
+use Rattle.packet_ranges.proofs.power.Statement.{statement}
+use Rattle.packet_ranges.proofs.power.Tie as tie
 
 pub power-spec : {M : Type 1} → statement M
 power-spec =

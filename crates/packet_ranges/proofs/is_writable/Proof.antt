@@ -1,7 +1,7 @@
 use borrow.Author.Needs.{needs}
-use Rattle.packet_write.proofs.Writable.{no-coarse, many-coarse, many-fine, another-modulus, another-kind, large-apid, large-flags, by-sequence}
-use Rattle.packet_write.proofs.ranges.is_writable.Statement.{statement}
-use Rattle.packet_write.proofs.ranges.is_writable.Tie as tie
+use Rattle.packet_ranges.proofs.Writable.{no-coarse, many-coarse, many-fine, another-modulus, another-kind, large-apid, large-flags, by-sequence}
+use Rattle.packet_ranges.proofs.is_writable.Statement.{statement}
+use Rattle.packet_ranges.proofs.is_writable.Tie as tie
 
 pub is-writable-spec : {M : Type 1} → statement M
 is-writable-spec =

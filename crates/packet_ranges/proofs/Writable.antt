@@ -10,7 +10,7 @@ use Rattle.packet_rules.specs.declared.PacketHeader.{PacketHeader}
 use Rattle.packet_rules.specs.declared.TimeOctets.{TimeOctets}
 use Rattle.packet_rules.specs.Header.{largestKind, largestApid, largestFlags, largestSequence, mostCoarse, mostFine}
 use Rattle.packet_rules.specs.Write.{writable}
-use Rattle.packet_write.specs.Ready.{OctetsFacts}
+use Rattle.packet_ranges.specs.Octets.{OctetsFacts}
 
 module _ (n : ℕ) where
   pub power-0 : n ≡ 0 → 1 ≡ 256 ^ n

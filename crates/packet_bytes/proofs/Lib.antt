@@ -1,0 +1,2 @@
+-- Two parts written one before the other, and the parts of a packet.
+pub mod Parts

@@ -1,0 +1,2 @@
+-- What the ranges say of the time's octets.
+pub mod Octets
