@@ -1,3 +1,2 @@
--- What comes back, and that every result is an i64.
-pub mod Back
+-- That every result is an i64.
 pub mod Fitting

@@ -9,20 +9,18 @@ ghost use Rattle.rules.specs.Print.{printCount, printStamp, lengthPrinted, buff
 ghost use Rattle.rules.specs.Time.{timeOf, countAt};
 ghost use Rattle.c_rules.specs.Tables.{layoutFrom, partitionsFrom, segmentsFrom};
 ghost use Rattle.c_rules.specs.Calls.{returned, countRead, countGiven, timeWritten, zeroGiven};
-use crate::given::count_given;
-use crate::given::count_read;
-use crate::given::length_given;
-use crate::given::time_given;
 use byte_stamps::print_stamp;
 use byte_stamps::read_message;
 use byte_stamps::read_stamp;
 use byte_tables::layout::layout_of;
 use byte_times::count_at;
 use byte_times::time_of;
+use c_given::count_given;
+use c_given::count_read;
+use c_given::length_given;
+use c_given::time_given;
 use print::print_count;
 use text::read_text;
-
-pub mod given;
 
 #[no_mangle]
 pub extern "C" fn sclk_read_text(

@@ -1,7 +1,7 @@
 use borrow.Author.Needs.{needs}
-use Rattle.sclk_c.proofs.Back.{small-number, number-low, number-high, number-back, refusal-back, read-number, read-refused}
-use Rattle.sclk_c.proofs.given.count_read.Statement.{statement}
-use Rattle.sclk_c.proofs.given.count_read.Tie as tie
+use Rattle.c_given.proofs.Back.{small-number, number-low, number-high, number-back, refusal-back, read-number, read-refused}
+use Rattle.c_given.proofs.count_read.Statement.{statement}
+use Rattle.c_given.proofs.count_read.Tie as tie
 
 pub count-read-spec : {M : Type 1} → statement M
 count-read-spec =

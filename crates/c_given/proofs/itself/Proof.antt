@@ -1,7 +1,7 @@
 use borrow.Author.Needs.{needs}
-use Rattle.sclk_c.proofs.Back.{itself-is}
-use Rattle.sclk_c.proofs.given.itself.Statement.{statement}
-use Rattle.sclk_c.proofs.given.itself.Tie as tie
+use Rattle.c_given.proofs.Back.{itself-is}
+use Rattle.c_given.proofs.itself.Statement.{statement}
+use Rattle.c_given.proofs.itself.Tie as tie
 
 pub itself-spec : {M : Type 1} → statement M
 itself-spec =

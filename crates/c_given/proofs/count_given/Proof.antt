@@ -1,7 +1,7 @@
 use borrow.Author.Needs.{needs}
-use Rattle.sclk_c.proofs.Back.{small-number, number-low, number-high, number-back, refusal-back, count-number, count-refused}
-use Rattle.sclk_c.proofs.given.count_given.Statement.{statement}
-use Rattle.sclk_c.proofs.given.count_given.Tie as tie
+use Rattle.c_given.proofs.Back.{small-number, number-low, number-high, number-back, refusal-back, count-number, count-refused}
+use Rattle.c_given.proofs.count_given.Statement.{statement}
+use Rattle.c_given.proofs.count_given.Tie as tie
 
 pub count-given-spec : {M : Type 1} → statement M
 count-given-spec =

@@ -1,7 +1,7 @@
 use borrow.Author.Needs.{needs}
-use Rattle.sclk_c.proofs.Back.{small-number, number-low, number-high, number-back, refusal-back, print-number, print-refused}
-use Rattle.sclk_c.proofs.given.length_given.Statement.{statement}
-use Rattle.sclk_c.proofs.given.length_given.Tie as tie
+use Rattle.c_given.proofs.Back.{small-number, number-low, number-high, number-back, refusal-back, print-number, print-refused}
+use Rattle.c_given.proofs.length_given.Statement.{statement}
+use Rattle.c_given.proofs.length_given.Tie as tie
 
 pub length-given-spec : {M : Type 1} → statement M
 length-given-spec =

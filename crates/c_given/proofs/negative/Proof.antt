@@ -1,7 +1,7 @@
 use borrow.Author.Needs.{needs}
-use Rattle.sclk_c.proofs.Back.{negative-is}
-use Rattle.sclk_c.proofs.given.negative.Statement.{statement}
-use Rattle.sclk_c.proofs.given.negative.Tie as tie
+use Rattle.c_given.proofs.Back.{negative-is}
+use Rattle.c_given.proofs.negative.Statement.{statement}
+use Rattle.c_given.proofs.negative.Tie as tie
 
 pub negative-spec : {M : Type 1} → statement M
 negative-spec =

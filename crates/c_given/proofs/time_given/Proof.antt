@@ -1,7 +1,7 @@
 use borrow.Author.Needs.{needs}
-use Rattle.sclk_c.proofs.Back.{number-low, number-high, refusal-back, time-refused, time-leaves, time-back, time-left}
-use Rattle.sclk_c.proofs.given.time_given.Statement.{statement}
-use Rattle.sclk_c.proofs.given.time_given.Tie as tie
+use Rattle.c_given.proofs.Back.{number-low, number-high, refusal-back, time-refused, time-leaves, time-back, time-left}
+use Rattle.c_given.proofs.time_given.Statement.{statement}
+use Rattle.c_given.proofs.time_given.Tie as tie
 
 pub time-given-spec : {M : Type 1} → statement M
 time-given-spec =

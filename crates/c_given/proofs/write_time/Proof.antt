@@ -1,7 +1,7 @@
 use borrow.Author.Needs.{needs}
-use Rattle.sclk_c.proofs.Back.{short-back, short-leaves, full-back, full-left}
-use Rattle.sclk_c.proofs.given.write_time.Statement.{statement}
-use Rattle.sclk_c.proofs.given.write_time.Tie as tie
+use Rattle.c_given.proofs.Back.{short-back, short-leaves, full-back, full-left}
+use Rattle.c_given.proofs.write_time.Statement.{statement}
+use Rattle.c_given.proofs.write_time.Tie as tie
 
 pub write-time-spec : {M : Type 1} → statement M
 write-time-spec =
