@@ -4,7 +4,7 @@ ghost use mathlib.Core.List.{[], _∷_, _++_};
 ghost use Prim.Native.Nat.{_+_, _-_, _/_, _^_};
 ghost use lib.ListN.{length};
 ghost use Rattle.decimal.specs.Writing.{Room, Written};
-ghost use Rattle.packet_rules.specs.Octets.{octets as octetsOf};
+ghost use Rattle.packet_rules.specs.Octets.{octets as lowOctets};
 ghost use Rattle.packet_rules.specs.Header.{timeEnd};
 ghost use Rattle.packet_rules.specs.Write.{identificationOf, sequenceControlOf, pFieldOf, packetBytes};
 ghost use Rattle.packet_ranges.specs.Octets.{OctetsFacts};
@@ -52,24 +52,24 @@ fn write_front(
     end: usize,
     buffer: &mut [u8],
 ) -> usize
-    requires { ⌜ Room ((octetsOf 2 identification ++ octetsOf 2 control) ++ (octetsOf 2 length ++ (p ∷ []))) end (now buffer) ⌝ }
-    ensures { λ r. ⌜ Written ((octetsOf 2 identification ++ octetsOf 2 control) ++ (octetsOf 2 length ++ (p ∷ []))) end r (now (buffer .entry)) (now (buffer .exit)) ⌝ }
+    requires { ⌜ Room ((lowOctets 2 identification ++ lowOctets 2 control) ++ (lowOctets 2 length ++ (p ∷ []))) end (now buffer) ⌝ }
+    ensures { λ r. ⌜ Written ((lowOctets 2 identification ++ lowOctets 2 control) ++ (lowOctets 2 length ++ (p ∷ []))) end r (now (buffer .entry)) (now (buffer .exit)) ⌝ }
 {
     let middle = write_length(length, p, end, buffer);
     write_words(identification, control, middle, buffer)
 }
 
 fn write_words(first: u64, second: u64, end: usize, buffer: &mut [u8]) -> usize
-    requires { ⌜ Room (octetsOf 2 first ++ octetsOf 2 second) end (now buffer) ⌝ }
-    ensures { λ r. ⌜ Written (octetsOf 2 first ++ octetsOf 2 second) end r (now (buffer .entry)) (now (buffer .exit)) ⌝ }
+    requires { ⌜ Room (lowOctets 2 first ++ lowOctets 2 second) end (now buffer) ⌝ }
+    ensures { λ r. ⌜ Written (lowOctets 2 first ++ lowOctets 2 second) end r (now (buffer .entry)) (now (buffer .exit)) ⌝ }
 {
     let middle = write_octets(second, 2, end, buffer);
     write_octets(first, 2, middle, buffer)
 }
 
 fn write_length(length: u64, p: u8, end: usize, buffer: &mut [u8]) -> usize
-    requires { ⌜ Room (octetsOf 2 length ++ (p ∷ [])) end (now buffer) ⌝ }
-    ensures { λ r. ⌜ Written (octetsOf 2 length ++ (p ∷ [])) end r (now (buffer .entry)) (now (buffer .exit)) ⌝ }
+    requires { ⌜ Room (lowOctets 2 length ++ (p ∷ [])) end (now buffer) ⌝ }
+    ensures { λ r. ⌜ Written (lowOctets 2 length ++ (p ∷ [])) end r (now (buffer .entry)) (now (buffer .exit)) ⌝ }
 {
     let middle = write_byte(p, end, buffer);
     write_octets(length, 2, middle, buffer)
@@ -85,8 +85,8 @@ fn write_data(
     end: usize,
     buffer: &mut [u8],
 ) -> usize
-    requires { ⌜ Room ((octetsOf coarse units ++ octetsOf fine count) ++ now payload) end (now buffer) ⌝ }
-    ensures { λ r. ⌜ Written ((octetsOf coarse units ++ octetsOf fine count) ++ now (payload .entry)) end r (now (buffer .entry)) (now (buffer .exit)) ⌝ }
+    requires { ⌜ Room ((lowOctets coarse units ++ lowOctets fine count) ++ now payload) end (now buffer) ⌝ }
+    ensures { λ r. ⌜ Written ((lowOctets coarse units ++ lowOctets fine count) ++ now (payload .entry)) end r (now (buffer .entry)) (now (buffer .exit)) ⌝ }
 {
     let middle = write_part(payload, end, buffer);
     write_time(units, coarse, count, fine, middle, buffer)
@@ -100,8 +100,8 @@ fn write_time(
     end: usize,
     buffer: &mut [u8],
 ) -> usize
-    requires { ⌜ Room (octetsOf coarse units ++ octetsOf fine count) end (now buffer) ⌝ }
-    ensures { λ r. ⌜ Written (octetsOf coarse units ++ octetsOf fine count) end r (now (buffer .entry)) (now (buffer .exit)) ⌝ }
+    requires { ⌜ Room (lowOctets coarse units ++ lowOctets fine count) end (now buffer) ⌝ }
+    ensures { λ r. ⌜ Written (lowOctets coarse units ++ lowOctets fine count) end r (now (buffer .entry)) (now (buffer .exit)) ⌝ }
 {
     let middle = write_octets(count, fine, end, buffer);
     write_octets(units, coarse, middle, buffer)

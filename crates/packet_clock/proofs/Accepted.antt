@@ -1,7 +1,6 @@
 -- What a caller has of an accepted clock, and of a refused one.
 use Prim.Native.Nat.{ℕ, _≤_}
-use mathlib.Core.Path.{_≡_, sym, _∙_}
-use mathlib.Core.Bool.{true}
+use mathlib.Core.Path.{_≡_, sym}
 use mathlib.Core.List.{List, [], _∷_}
 use lib.Dec.{eqb}
 use lib.ListN.{getD, take, drop}
@@ -24,7 +23,7 @@ use Rattle.tables.specs.declared.Acceptance.the-variants.{Accepted, Refused}
 use Rattle.tables.specs.Accept.{acceptance, stampsBasis}
 use Rattle.tables.proofs.Accepted.{found, facts-behind, behind, stamps-same}
 use Rattle.tables.proofs.Guards.{passed, refused-same, refused-same-at}
-use Rattle.packet_rules.specs.Read.{acceptedClock, secondModulus}
+use Rattle.packet_rules.specs.Read.{acceptedClock}
 use Rattle.packet_clock.specs.Clock.{clockBasis, ClockFacts}
 
 -- the ways out of the code

@@ -1,6 +1,5 @@
 -- What accepting a packet's clock answers, and the named facts of what it accepts.
-use Prim.Native.Nat.{ℕ, _≤_, _<_}
-use mathlib.Core.Path.{_≡_}
+use Prim.Native.Nat.{_≤_}
 use Rattle.rules.specs.declared.Layout.{Layout}
 use Rattle.rules.specs.Answer.{Answer, answer}
 use Rattle.rules.specs.Limits.{largestMSF}

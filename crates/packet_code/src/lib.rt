@@ -1,4 +1,9 @@
 // Reading a packet as one function of an archive, so that its machine code can be looked through. It is no call for host programs.
+ghost use mathlib.Core.Path.{_≡_};
+ghost use mathlib.Core.List.{_∷_, []};
+ghost use Rattle.rules.specs.Partitions.{partitions};
+ghost use Rattle.packet_rules.specs.Read.{readPacket};
+ghost use Rattle.packet_code.specs.Mixed.{with, mixedPacket, mixedRefusal, mixed};
 use packet_read::read_packet;
 use packet_rules::Packet;
 use packet_rules::PacketAnswer;
@@ -16,7 +21,9 @@ pub extern "C" fn packet_code_read(
     starts: &[u64],
     ends: &[u64],
     packet: &[u8],
-) -> u64 {
+) -> u64
+    ensures { λ r. ⌜ r ≡ mixed (readPacket (record { n = n; moduli = first ∷ second ∷ 1 ∷ 1 ∷ 1 ∷ 1 ∷ 1 ∷ 1 ∷ 1 ∷ 1 ∷ []; offsets = 0 ∷ 0 ∷ 0 ∷ 0 ∷ 0 ∷ 0 ∷ 0 ∷ 0 ∷ 0 ∷ 0 ∷ []; delimiter = delimiter }) (partitions (now (starts .entry)) (now (ends .entry))) (now (packet .entry))) ⌝ }
+{
     let layout = Layout {
         n: n as usize,
         moduli: [first, second, 1, 1, 1, 1, 1, 1, 1, 1],
@@ -24,33 +31,39 @@ pub extern "C" fn packet_code_read(
         delimiter,
     };
     match read_packet(layout, starts, ends, packet) {
-        PacketAnswer::Read(k) => mixed(k),
-        PacketAnswer::Refused(k) => refused(k),
+        PacketAnswer::Read(k) => mix_packet(k),
+        PacketAnswer::Refused(k) => mix_refusal(k),
     }
 }
 
-fn mixed(packet: Packet) -> u64 {
+fn mix_packet(packet: Packet) -> u64
+    ensures { λ r. ⌜ r ≡ mixedPacket packet ⌝ }
+{
     let header = packet.header;
     let octets = packet.octets;
-    let x = with(0, header.kind as u64);
-    let x = with(x, header.apid as u64);
-    let x = with(x, header.flags as u64);
-    let x = with(x, header.sequence as u64);
-    let x = with(x, octets.coarse as u64);
-    let x = with(x, octets.fine as u64);
-    let x = with(x, packet.payload as u64);
-    let x = with(x, packet.count);
-    with(x, packet.encoded)
+    let x = mix(0, header.kind as u64);
+    let x = mix(x, header.apid as u64);
+    let x = mix(x, header.flags as u64);
+    let x = mix(x, header.sequence as u64);
+    let x = mix(x, octets.coarse as u64);
+    let x = mix(x, octets.fine as u64);
+    let x = mix(x, packet.payload as u64);
+    let x = mix(x, packet.count);
+    mix(x, packet.encoded)
 }
 
-fn refused(refusal: Refusal) -> u64 {
+fn mix_refusal(refusal: Refusal) -> u64
+    ensures { λ r. ⌜ r ≡ mixedRefusal refusal ⌝ }
+{
     let place = refusal.place;
     match place {
-        Place::At(i) => with(refusal.number, i as u64),
+        Place::At(i) => mix(refusal.number, i as u64),
         Place::None => refusal.number,
     }
 }
 
-fn with(x: u64, y: u64) -> u64 {
+fn mix(x: u64, y: u64) -> u64
+    ensures { λ r. ⌜ r ≡ with x y ⌝ }
+{
     std::num::wrapping_add_u64(std::num::wrapping_add_u64(x, x), y)
 }

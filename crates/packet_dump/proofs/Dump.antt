@@ -6,10 +6,12 @@ use mathlib.Core.List.{List, flatten}
 use lib.ListN.{length, take}
 use Rattle.rules.specs.Answer.{answer}
 use Rattle.rules.proofs.Answers.{payload}
-use Rattle.packet_rules.specs.Walk.{tailRoom}
-use Rattle.packet_dump.specs.Packets.{packetsIn, restIn, octetsOnly}
+use borrow.Author.Tests.{le-leb}
+use Rattle.packet_rules.specs.Walk.{tailRoom, left, nextPacket}
+use Rattle.packet_rules.specs.Octets.{octetsOnly}
+use Rattle.packet_dump.specs.Packets.{packetsIn, restIn}
 use Rattle.packet_dump.specs.Walks.{Walk, walkDump}
-use Rattle.packet_dump.specs.Dump.{Gives, GoesOn, Dump, Buffers}
+use Rattle.packet_dump.specs.Dump.{Gives, GoesOn, Dump, FrontOnly, Buffers}
 use Rattle.packet_dump.proofs.Cutting.{cuts-in, only-cut}
 use Rattle.packet_dump.proofs.Steps.{after-chunk, after-refused, after-length, front-joined, front-tail}
 use Rattle.packet_dump.proofs.Walks.{Ready, Cutting, empty-ready, held, step, dump-cut}
@@ -60,6 +62,10 @@ same more others b d chunks pieces w v room space o e h k =
 
 pub dump : Dump
 dump = record { gives = gives; same = same; cuts = cuts-in; only = only-cut; goes-on = λ more b chunks w room octets h. goes-on more b chunks room octets w h }
+
+pub front-only : FrontOnly
+unfolding nextPacket left
+front-only b d tail chunk at h k e = rw (le-leb tailRoom (length b) h, le-leb tailRoom (length d) k, e)
 
 pub buffers : Buffers
 buffers =

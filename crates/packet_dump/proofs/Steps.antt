@@ -17,7 +17,7 @@ use Rattle.rules.proofs.Answers.{payload, unless-test, unless-rest}
 use Rattle.packet_rules.specs.Header.{headerOctets, packetLength}
 use Rattle.packet_rules.specs.Walk.{tailRoom, isWhole, left, Found, inChunk, inBuffer, onlyTail, foundIn, nextPacket, writtenBy, tailBufferAfter}
 use Rattle.packet_rules.proofs.Lengths.{length-at, whole-length, not-whole-length}
-use Rattle.packet_dump.specs.Packets.{octetsOnly}
+use Rattle.packet_rules.specs.Octets.{octetsOnly}
 use Rattle.packet_dump.specs.Dump.{Front}
 use Rattle.packet_dump.proofs.Lists.{all-take, all-drop}
 

@@ -15,7 +15,8 @@ use Rattle.packet_rules.specs.Octets.{bigFrom}
 use Rattle.packet_rules.specs.Header.{headerOctets, wordAt, packetLength}
 use Rattle.packet_rules.specs.Walk.{tailRoom, isWhole, left, inChunk, inBuffer, onlyTail, foundIn, nextPacket, tailBufferAfter}
 use Rattle.packet_rules.proofs.Lengths.{whole-length, not-whole-length, length-more}
-use Rattle.packet_dump.specs.Packets.{Cuts, octetsOnly}
+use Rattle.packet_rules.specs.Octets.{octetsOnly}
+use Rattle.packet_dump.specs.Packets.{Cuts}
 use Rattle.packet_dump.specs.Walks.{Walk, walked, preceded, goOn, walkChunk, stepsFor, walkDump}
 use Rattle.packet_dump.proofs.Lists.{all-first, all-second}
 use Rattle.packet_dump.proofs.Cutting.{cuts-nil, cuts-cons, cuts-join}

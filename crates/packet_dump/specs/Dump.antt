@@ -7,7 +7,8 @@ use lib.ListN.{length, take, drop}
 use Rattle.rules.specs.declared.Refusal.{Refusal}
 use Rattle.rules.specs.Answer.{Answer, answer, refused}
 use Rattle.packet_rules.specs.Walk.{tailRoom, isWhole, left, inChunk, inBuffer, onlyTail, foundIn, nextPacket, tailBufferAfter}
-use Rattle.packet_dump.specs.Packets.{packetsIn, restIn, Cuts, octetsOnly}
+use Rattle.packet_rules.specs.Octets.{octetsOnly}
+use Rattle.packet_dump.specs.Packets.{packetsIn, restIn, Cuts}
 use Rattle.packet_dump.specs.Walks.{Walk, walkDump}
 
 -- a walk with an answer, whose packets are those of s, and whose tail is the rest
@@ -50,6 +51,11 @@ pub record Dump : Type 0 where
       → octetsOnly (flatten chunks) ≡ true
       → walkDump more buffer 0 chunks ≡ answer w
       → GoesOn (w .buffer) (w .tail)
+
+-- Whatever stands in the buffer behind the tail plays no part: so a caller may write there, or bring the tail in another buffer.
+abbrev pub FrontOnly : Type 0
+FrontOnly =
+    (b d : List ℕ) (tail : ℕ) (chunk : List ℕ) (at : ℕ) → tailRoom ≤ length b → tailRoom ≤ length d → take tail b ≡ take tail d → nextPacket b tail chunk at ≡ nextPacket d tail chunk at
 
 -- What a step leaves in the buffer, for every tail, chunk and place.
 pub record Buffers : Type 0 where

@@ -3,9 +3,8 @@ use Prim.Native.Nat.{ℕ, zero, suc}
 use mathlib.Core.Path.{_≡_}
 use mathlib.Core.Bool.{Bool, true, false, cond, _&&_}
 use mathlib.Core.List.{List, [], _∷_, _++_, flatten}
-use lib.Dec.{leb, eqb}
+use lib.Dec.{eqb}
 use lib.ListN.{length, take, drop}
-use Rattle.base.specs.Scans.{all}
 use Rattle.packet_rules.specs.Header.{packetLength}
 use Rattle.packet_rules.specs.Walk.{isWhole}
 
@@ -19,7 +18,7 @@ unfoldable pub behindPackets : ℕ → List ℕ → List ℕ
 behindPackets zero s = s
 behindPackets (suc k) s = cond (isWhole s) (behindPackets k (drop (packetLength s) s)) s
 
--- all of them: there are fewer than bytes
+-- all of them: there are no more than bytes
 abbrev pub packetsIn : List ℕ → List (List ℕ)
 packetsIn s = firstPackets (length s) s
 
@@ -36,7 +35,3 @@ pub record Cuts (s : List ℕ) (packets : List (List ℕ)) (rest : List ℕ) : T
   pub bytes : flatten packets ++ rest ≡ s
   pub each : allPackets packets ≡ true
   pub none : isWhole rest ≡ false
-
--- a dump is made of octets
-abbrev pub octetsOnly : List ℕ → Bool
-octetsOnly s = all (λ b. leb b 255) s

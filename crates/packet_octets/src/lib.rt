@@ -21,7 +21,7 @@ pub fn word_at(s: &[u8], at: usize) -> u64
     ensures { λ r. ⌜ r ≡ wordAt at (now (s .entry)) ⌝ }
     ensures { λ r. ⌜ r < 2 ^ 16 ⌝ }
 {
-    256 * wide(s[at]) + wide(s[at + 1])
+    256 * as_word(s[at]) + as_word(s[at + 1])
 }
 
 // The number that `n` octets make from this place on, up to four of them.
@@ -33,20 +33,20 @@ pub fn number_at(s: &[u8], at: usize, n: usize) -> u64
     let mut x: u64 = 0;
     let mut i = 0;
     while i < n {
-        x = 256 * x + wide(s[at + i]);
+        x = 256 * x + as_word(s[at + i]);
         i += 1;
     }
     x
 }
 
 // An octet as a word.
-pub fn wide(x: u8) -> u64
+pub fn as_word(x: u8) -> u64
     ensures { λ r. ⌜ (r ≡ x) × (r < 256) ⌝ }
 {
     x as u64
 }
 
-// `x` without its `n` lowest octets, of which it may have up to four.
+// `x` without its `n` lowest octets; `n` is at most four.
 pub fn above(x: u64, n: u8) -> u64
     requires { ⌜ n ≤ 4 ⌝ }
     ensures { λ r. ⌜ r ≡ x / 256 ^ n ⌝ }

@@ -17,7 +17,7 @@ use Rattle.packet_rules.specs.Octets.{bigFrom, octets, bits}
 use Rattle.packet_rules.specs.Header.{wordAt, headerIn, octetsIn, timeStart, timeEnd, packetLength}
 use Rattle.packet_rules.specs.Read.{ticks, ticksIn}
 use Rattle.packet_rules.specs.Write.{mostDataOctets, dataOctets, pFieldOf, packetBytes}
-use Rattle.packet_outcomes.specs.RoundTrip.{isOctet}
+use Rattle.packet_rules.specs.Octets.{isOctet}
 use Rattle.packet_outcomes.specs.Reading.{RightForm, GoodPacket}
 use Rattle.packet_outcomes.specs.Writing.{InRange}
 use Rattle.packet_outcomes.proofs.Octets.{power-pos, length-octets, all-octets, big-octets, big-octets-same}

@@ -11,7 +11,7 @@ use native.Mathlib.Omega.{arith}
 use Rattle.base.specs.Scans.{all}
 use Rattle.base.proofs.Lists.{all-append, all-cons}
 use Rattle.packet_rules.specs.Octets.{bigFrom, big, octets}
-use Rattle.packet_outcomes.specs.RoundTrip.{isOctet}
+use Rattle.packet_rules.specs.Octets.{isOctet}
 
 pub power-pos : (n : ℕ) → 0 < 256 ^ n
 power-pos n = omega (arith, one-le-pow n 256 (omega arith))

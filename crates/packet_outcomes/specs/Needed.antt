@@ -9,12 +9,12 @@ use Rattle.packet_rules.specs.Octets.{bigFrom, octets, bits}
 use Rattle.packet_rules.specs.Header.{wordAt}
 use Rattle.packet_rules.specs.Read.{formOk, acceptedPacket, ticks, ticksIn, packetAt, readPacket}
 use Rattle.packet_rules.specs.Write.{writable, packetBytes, packetOf, writePacket}
-use Rattle.packet_rules.specs.Examples.{octetsOf, clock, twoPartitions, zeros}
+use Rattle.packet_rules.specs.Examples.{timeOctets, clock, twoPartitions, zeros}
 use Rattle.packet_outcomes.specs.RoundTrip.{Content, write, backWith}
 
 -- the start of the second partition
 abbrev pub secondStart : Content
-secondStart = record { header = zeros; octets = octetsOf 2 0; encoded = 300; payload = [] }
+secondStart = record { header = zeros; octets = timeOctets 2 0; encoded = 300; payload = [] }
 
 unfoldable pub startBytes : List ℕ
 startBytes = 8 ∷ 0 ∷ 0 ∷ 0 ∷ 0 ∷ 2 ∷ 36 ∷ 0 ∷ 100 ∷ []

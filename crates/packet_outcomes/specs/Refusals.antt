@@ -19,7 +19,7 @@ use Rattle.packet_rules.specs.Octets.{bigFrom, octets, bits}
 use Rattle.packet_rules.specs.Header.{wordAt}
 use Rattle.packet_rules.specs.Read.{formOk, acceptedPacket, ticks, ticksIn, packetAt, readPacket}
 use Rattle.packet_rules.specs.Write.{writable, packetBytes, packetOf, writePacket}
-use Rattle.packet_rules.specs.Examples.{octetsOf, clock, upTo, zeros}
+use Rattle.packet_rules.specs.Examples.{timeOctets, clock, upTo, zeros}
 
 unfoldable pub readingRefusals : List ℕ
 readingRefusals = 25 ∷ 26 ∷ 1 ∷ 2 ∷ 11 ∷ []
@@ -49,9 +49,9 @@ pub refusals-given :
     (numbered 25 ∷ numbered 26 ∷ numbered 1 ∷ placed 2 0 ∷ numbered 11 ∷ [])
     readingRefusals
     × Given
-    (writesAs noLayout (upTo 1_000) (octetsOf 1 1) 5 [] ∷ writesAs (clock 1_000 256) noPartitions (octetsOf 1 1) 5 [] ∷ writesAs (clock 1_000 256) (upTo 1_000) (octetsOf 1 2) 5 []
-    ∷ writesAs (clock 1_000 256) (upTo 1_000) (octetsOf 1 1) 5 (replicate 65_534 7) ∷ writesAs (clock 1_000 256) (upTo 1_000) (octetsOf 1 1) 1_001 []
-    ∷ writesAs (clock 1_000 256) (upTo 65_536) (octetsOf 1 1) 65_536 [] ∷ writesAs (clock 1_000 256) (upTo 1_000) (octetsOf 1 1) 5 [] ∷ [])
+    (writesAs noLayout (upTo 1_000) (timeOctets 1 1) 5 [] ∷ writesAs (clock 1_000 256) noPartitions (timeOctets 1 1) 5 [] ∷ writesAs (clock 1_000 256) (upTo 1_000) (timeOctets 1 2) 5 []
+    ∷ writesAs (clock 1_000 256) (upTo 1_000) (timeOctets 1 1) 5 (replicate 65_534 7) ∷ writesAs (clock 1_000 256) (upTo 1_000) (timeOctets 1 1) 1_001 []
+    ∷ writesAs (clock 1_000 256) (upTo 65_536) (timeOctets 1 1) 65_536 [] ∷ writesAs (clock 1_000 256) (upTo 1_000) (timeOctets 1 1) 5 [] ∷ [])
     (numbered 1 ∷ placed 2 0 ∷ numbered 26 ∷ numbered 25 ∷ numbered 12 ∷ numbered 9 ∷ numbered 16 ∷ [])
     writingRefusals
 unfolding computing noLayout noPartitions bigFrom octets bits wordAt formOk acceptedPacket ticks ticksIn packetAt readPacket writable packetBytes packetOf writePacket clock upTo readingRefusals writingRefusals

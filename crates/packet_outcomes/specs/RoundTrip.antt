@@ -1,12 +1,10 @@
 -- "a written packet reads back as the same clock count, and as the same encoded count where no earlier partition holds it". proofs/RoundTrip.antt has the proof.
 use Prim.Native.Nat.{ℕ, _+_, _-_, _≤_, _<_}
 use mathlib.Core.Path.{_≡_}
-use mathlib.Core.Bool.{Bool, true}
+use mathlib.Core.Bool.{true}
 use mathlib.Core.List.{List}
 use mathlib.Core.Logic.{_⊎_}
-use lib.Dec.{leb}
 use lib.ListN.{length, take, drop}
-use Rattle.base.specs.Scans.{all}
 use Rattle.rules.specs.declared.Layout.{Layout}
 use Rattle.rules.specs.Answer.{Answer, answer, refuse}
 use Rattle.rules.specs.Partitions.{Partitions, startOf, endOf, lengthsBefore}
@@ -15,10 +13,12 @@ use Rattle.roundtrip.specs.Unnamed.{Holds, FirstToHold}
 use Rattle.packet_rules.specs.declared.PacketHeader.{PacketHeader}
 use Rattle.packet_rules.specs.declared.TimeOctets.{TimeOctets}
 use Rattle.packet_rules.specs.declared.Packet.{Packet}
+use Rattle.packet_rules.specs.Octets.{octetsOnly}
 use Rattle.packet_rules.specs.Header.{timeEnd}
 use Rattle.packet_rules.specs.Read.{readPacket}
 use Rattle.packet_rules.specs.Write.{packetBytes, writePacket}
-use Rattle.packet_rules.specs.Examples.{octetsOf, clock, upTo, zeros}
+use Rattle.packet_rules.specs.Walk.{tailRoom}
+use Rattle.packet_rules.specs.Examples.{timeOctets, clock, upTo, zeros}
 
 -- What is written.
 pub record Content : Type 0 where
@@ -48,19 +48,12 @@ pub record Meets (p : Partitions) (c i j : ℕ) : Type 0 where
   pub end : endOf p i ≡ c
   pub start : startOf p j ≡ c
 
--- the longest packet has 65,536 data octets behind its header
-abbrev pub longestPacket : ℕ
-longestPacket = 65_542
-
-abbrev pub isOctet : ℕ → Bool
-isOctet b = leb b 255
-
 -- What is known of the packet s, written under these tables.
 pub record Back (l : Layout) (p : Partitions) (w : Content) (s : List ℕ) : Type 0 where
   pub bytes : s ≡ packetBytes (w .header) (w .octets) (clockCount p w) (w .payload)
   pub size : length s ≡ timeEnd (w .octets) + length (w .payload)
-  pub short : length s ≤ longestPacket
-  pub are-octets : all isOctet (w .payload) ≡ true → all isOctet s ≡ true
+  pub short : length s ≤ tailRoom
+  pub are-octets : octetsOnly (w .payload) ≡ true → octetsOnly s ≡ true
   -- "data after the time as given"
   pub given : drop (timeEnd (w .octets)) s ≡ w .payload
   -- it is read, and never refused: the encoded count is that of the first partition that holds the clock's count
@@ -69,7 +62,7 @@ pub record Back (l : Layout) (p : Partitions) (w : Content) (s : List ℕ) : Typ
   pub read : readPacket l p s ≡ answer (backWith p w (lengthsBefore p partition + (clockCount p w - startOf p partition)))
   -- "the same encoded count where no earlier partition holds it"
   pub same : NoEarlierHolds p w → readPacket l p s ≡ answer (backWith p w (w .encoded))
-  -- and only there, but where two partitions meet: "an inner end and the next start share one encoded count"
+  -- and only there, except where two partitions meet: "an inner end and the next start share one encoded count"
   pub only : readPacket l p s ≡ answer (backWith p w (w .encoded)) → NoEarlierHolds p w ⊎ Meets p (clockCount p w) partition (partitionOf p (w .encoded))
 
 abbrev pub PacketReadsBack : Type 0
@@ -83,8 +76,8 @@ CallReadsBack =
 
 -- "over 65,536 data octets": some packet is the longest, and is refused with one octet more; two coarse octets and one fine
 abbrev pub longContent : List ℕ → Content
-longContent d = record { header = zeros; octets = octetsOf 2 1; encoded = 5; payload = d }
+longContent d = record { header = zeros; octets = timeOctets 2 1; encoded = 5; payload = d }
 
 pub record LongestWritten : Type 0 where
-  pub written : (d : List ℕ) → length d ≡ 65_532 → (s : List ℕ) × (write (clock 1_000 256) (upTo 1_000) (longContent d) longestPacket ≡ answer s) × (length s ≡ longestPacket)
+  pub written : (d : List ℕ) → length d ≡ 65_532 → (s : List ℕ) × (write (clock 1_000 256) (upTo 1_000) (longContent d) tailRoom ≡ answer s) × (length s ≡ tailRoom)
   pub too-long : (d : List ℕ) → length d ≡ 65_533 → (room : ℕ) → write (clock 1_000 256) (upTo 1_000) (longContent d) room ≡ refuse 25

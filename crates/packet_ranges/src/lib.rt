@@ -34,7 +34,7 @@ pub fn is_writable(header: PacketHeader, octets: TimeOctets, modulus: u64) -> bo
     header.sequence <= 16_383
 }
 
-// 256 for each fine octet, multiplied.
+// 256 to the power of `n`.
 fn power(n: u8) -> u64
     requires { ⌜ n ≤ 3 ⌝ }
     ensures { λ r. ⌜ r ≡ 256 ^ n ⌝ }

@@ -1,8 +1,7 @@
 -- What each way out of reading a packet says of the answer.
-use Prim.Native.Nat.{ℕ, _<_, _≤_, min}
-use mathlib.Core.Path.{_≡_, sym, _∙_}
+use Prim.Native.Nat.{ℕ, _≤_, min}
+use mathlib.Core.Path.{_≡_, sym}
 use mathlib.Core.List.{List}
-use lib.ListN.{getD}
 use native.Mathlib.Nat.{lt-of-lt-of-le}
 use Rattle.rules.specs.Limits.{largestP, largestMSF}
 use Rattle.rules.specs.declared.Layout.{Layout}
@@ -22,7 +21,7 @@ use Rattle.rules.specs.Layout.{productOf}
 use Rattle.packet_rules.specs.declared.PacketHeader.{PacketHeader}
 use Rattle.packet_rules.specs.declared.TimeOctets.{TimeOctets}
 use Rattle.packet_rules.specs.declared.Packet.{Packet}
-use Rattle.packet_rules.specs.Header.{headerIn, octetsIn, timeEnd}
+use Rattle.packet_rules.specs.Header.{headerIn, timeEnd}
 use Rattle.packet_rules.specs.Read.{secondModulus, ticksIn, packetAt, readPacket}
 use Rattle.packet_clock.specs.Clock.{clockBasis}
 use Rattle.packet_clock.proofs.Accepted.{clock-refused, clock-facts, clock-accepted}

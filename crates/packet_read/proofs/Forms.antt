@@ -1,12 +1,12 @@
 -- The form of a packet: each way out of its check, and what a caller has of it.
 use Prim.Native.Nat.{ℕ, _+_, _≤_, _<_}
 use mathlib.Core.Path.{_≡_, refl, sym, _∙_, ap}
-use mathlib.Core.Bool.{Bool, true, false, not, _&&_, and-true}
+use mathlib.Core.Bool.{Bool, true, false, not, and-true}
 use mathlib.Core.List.{List, [], _∷_}
 use lib.Dec.{leb, eqb}
 use lib.ListN.{length, getD}
 use native.Mathlib.Omega.{arith}
-use borrow.Author.Tests.{eq-eqb, ne-eqb, eqb-true, le-leb, lt-leb, leb-true, not-true, not-false}
+use borrow.Author.Tests.{eq-eqb, ne-eqb, le-leb, lt-leb, leb-true, not-true, not-false}
 use Rattle.base.specs.Scans.{allOf}
 use Rattle.rules.specs.declared.Refusal.{Refusal}
 use Rattle.rules.specs.Answer.{Answer, answer, refused, refuse, unless}
@@ -14,11 +14,11 @@ use Rattle.rules.proofs.Answers.{payload, not-answer, unless-test, unless-rest}
 use Rattle.tables.proofs.Guards.{passed, refused-same}
 use Rattle.packet_rules.specs.declared.TimeOctets.{TimeOctets}
 use Rattle.packet_rules.specs.Octets.{bits}
-use Rattle.packet_rules.specs.Header.{wordAt, pField, headerIn, octetsIn, agencyEpoch, timeEnd, packetLength}
+use Rattle.packet_rules.specs.Header.{wordAt, headerIn, octetsIn, agencyEpoch, timeEnd, packetLength}
 use Rattle.packet_rules.specs.Read.{formOk, acceptedPacket}
 use Rattle.packet_read.specs.declared.Form.{Form}
 use Rattle.packet_read.specs.declared.Form.the-variants as Forms
-use Rattle.packet_read.specs.Form.{formAnswer, octetsOf, TimeThere}
+use Rattle.packet_read.specs.Form.{formAnswer, octetsBy, TimeThere}
 
 -- the four tests of the form, by the first word and the P-field
 abbrev pub formTests : ℕ → ℕ → Bool
@@ -50,7 +50,7 @@ module _ (s : List ℕ) (w v : ℕ) (ew : w ≡ wordAt 0 s) (ev : v ≡ wordAt 2
 
 -- the octets of the time, by the P-field
 module _ (p c f : ℕ) (ec : c ≡ bits 2 2 p) (ef : f ≡ bits 0 2 p) where
-  pub octets-are : record { coarse = c + 1; fine = f } ≡ octetsOf p
+  pub octets-are : record { coarse = c + 1; fine = f } ≡ octetsBy p
   octets-are = rw (ec, ef)
 
 module _ (s : List ℕ) where
@@ -78,7 +78,7 @@ module _ (s : List ℕ) where
       unfolding acceptedPacket unless
       bad-form n = rw (long, form, not-true t n)
 
-      module _ (n : not t ≡ false) (o : TimeOctets) (eo : o ≡ octetsOf p) (end : ℕ) (ee : end ≡ timeEnd o) where
+      module _ (n : not t ≡ false) (o : TimeOctets) (eo : o ≡ octetsBy p) (end : ℕ) (ee : end ≡ timeEnd o) where
         same : o ≡ octetsIn s
         same = eo ∙ rw ep
 

@@ -1,7 +1,6 @@
 -- The ticks of a time: whole units are whole ticks, and a count past every partition is refused, whatever it is.
-use Prim.Native.Nat.{ℕ, zero, _+_, _*_, _/_, _^_, _≤_, _<_, min}
-use mathlib.Core.Path.{_≡_, refl, sym, _∙_, ap}
-use mathlib.Core.Bool.{true, false}
+use Prim.Native.Nat.{ℕ, _+_, _*_, _/_, _^_, _≤_, _<_, min}
+use mathlib.Core.Path.{_≡_, sym, _∙_, ap}
 use mathlib.Core.List.{List}
 use lib.Dec.{leb}
 use lib.ListN.{take, drop}
@@ -14,7 +13,7 @@ use Rattle.base.specs.Rounding.{roundDown}
 use Rattle.base.proofs.Tests.{by-test, and-out-second}
 use Rattle.base.proofs.Scans.{first-none}
 use Rattle.rules.specs.Limits.{largestP, largestMSF}
-use Rattle.rules.specs.Answer.{Answer, refuse, andThen}
+use Rattle.rules.specs.Answer.{refuse, andThen}
 use Rattle.rules.specs.Partitions.{Partitions, partitionsIn, startOf, endOf}
 use Rattle.rules.specs.Stamp.{holds, encodeFound, encodeFirst}
 use Rattle.packet_rules.specs.declared.TimeOctets.{TimeOctets}

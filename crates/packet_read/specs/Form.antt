@@ -18,8 +18,8 @@ formAnswer (Forms.Octets o) = answer o
 formAnswer (Forms.Refused k) = refused k
 
 -- how many octets the P-field p gives the time
-abbrev pub octetsOf : ℕ → TimeOctets
-octetsOf p = record { coarse = bits 2 2 p + 1; fine = bits 0 2 p }
+abbrev pub octetsBy : ℕ → TimeOctets
+octetsBy p = record { coarse = bits 2 2 p + 1; fine = bits 0 2 p }
 
 -- the time's octets are those of the packet, and all there
 pub record TimeThere (o : TimeOctets) (s : List ℕ) : Type 0 where

@@ -11,14 +11,14 @@ ghost use Rattle.rules.specs.Partitions.{partitions};
 ghost use Rattle.packet_rules.specs.Octets.{bits};
 ghost use Rattle.packet_rules.specs.Header.{headerIn, octetsIn, headerOctets, agencyEpoch, timeEnd};
 ghost use Rattle.packet_rules.specs.Read.{acceptedPacket, ticks, ticksIn, packetAt, readPacket, packetAnswer};
-ghost use Rattle.packet_read.specs.Form.{formAnswer, octetsOf, TimeThere, Held};
+ghost use Rattle.packet_read.specs.Form.{formAnswer, octetsBy, TimeThere, Held};
 use encode::Encoded;
 use encode::encode_first;
 use packet_clock::accept_clock;
 use packet_octets::above;
+use packet_octets::as_word;
 use packet_octets::field;
 use packet_octets::number_at;
-use packet_octets::wide;
 use packet_octets::word_at;
 use packet_rules::Packet;
 use packet_rules::PacketAnswer;
@@ -28,6 +28,9 @@ use rules::Layout;
 use rules::Refusal;
 use tables::Acceptance;
 use wide::mul_add_capped;
+
+// Where the time begins, behind the primary header and the P-field: so long is the shortest packet.
+const TIME_START: usize = 7;
 
 // The octets of a packet's time, where the packet's form is good.
 pub enum Form {
@@ -56,13 +59,13 @@ fn check_packet(packet: &[u8]) -> Form
     ensures { λ r. ⌜ formAnswer r ≡ acceptedPacket (now (packet .entry)) (answer (octetsIn (now (packet .entry)))) ⌝ }
 {
     let length = packet.len();
-    if length < 7 {
+    if length < TIME_START {
         return Form::Refused(refusals::PACKET_LENGTH);
     }
-    if length != 7 + word_at(packet, 4) as usize {
+    if length != TIME_START + word_at(packet, 4) as usize {
         return Form::Refused(refusals::PACKET_LENGTH);
     }
-    let p = wide(packet[6]);
+    let p = as_word(packet[6]);
     if !form_ok(word_at(packet, 0), p) {
         return Form::Refused(refusals::PACKET_FORM);
     }
@@ -91,7 +94,7 @@ fn form_ok(identification: u64, p: u64) -> bool
 
 // How many octets the time has, by the P-field.
 fn time_octets(p: u64) -> TimeOctets
-    ensures { λ r. ⌜ r ≡ octetsOf p ⌝ }
+    ensures { λ r. ⌜ r ≡ octetsBy p ⌝ }
     ensures { λ r. ⌜ (r .coarse ≤ 4) × (r .fine ≤ 3) ⌝ }
 {
     TimeOctets {
@@ -104,7 +107,7 @@ fn time_octets(p: u64) -> TimeOctets
 fn time_end(octets: TimeOctets) -> usize
     ensures { λ r. ⌜ r ≡ timeEnd octets ⌝ }
 {
-    7 + octets.coarse as usize + octets.fine as usize
+    TIME_START + octets.coarse as usize + octets.fine as usize
 }
 
 // A packet of good form: 11, or all that it gives.
@@ -140,13 +143,13 @@ fn count_time(modulus: u64, octets: TimeOctets, packet: &[u8]) -> u64
     ensures { λ r. ⌜ r ≡ min (ticksIn modulus octets (now (packet .entry))) largestP ⌝ }
 {
     let fine_octets = octets.fine;
-    let middle = 7 + octets.coarse as usize;
-    let coarse = number_at(packet, 7, octets.coarse as usize);
+    let middle = TIME_START + octets.coarse as usize;
+    let coarse = number_at(packet, TIME_START, octets.coarse as usize);
     let fine = number_at(packet, middle, fine_octets as usize);
     count_ticks(modulus, fine_octets, coarse, fine)
 }
 
-// The whole units are whole ticks, so that only the fine part is divided, by 256 for each of its octets.
+// The whole units are whole ticks, so that only the fine part's ticks are shifted, by eight bits for each of its octets.
 fn count_ticks(modulus: u64, octets: u8, coarse: u64, fine: u64) -> u64
     requires { ⌜ modulus ≤ largestMSF ⌝ }
     requires { ⌜ (octets ≤ 3) × (fine < 256 ^ octets) ⌝ }

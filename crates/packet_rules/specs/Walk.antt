@@ -14,7 +14,7 @@ use Rattle.packet_rules.specs.Header.{packetLength}
 abbrev pub tailRoom : ℕ
 tailRoom = 65_542
 
--- a whole packet stands at the front of s; `packetLength` is above the length of what is too short to have a length field
+-- A whole packet stands at the front of s. Bytes without a length field are never whole: `packetLength` is at least 7.
 unfoldable pub isWhole : List ℕ → Bool
 isWhole s = leb (packetLength s) (length s)
 
@@ -38,7 +38,8 @@ foundIn tail at s =
     (cond (eqb tail 0) (inChunk at (at + packetLength s)) (inBuffer (packetLength s) (at + (packetLength s - tail))))
     (onlyTail (length s))
 
--- "16 if shorter, then 25 for a tail said to be longer than that"; and 25 for one in which a whole packet stands, which no walk leaves
+-- "16 if shorter, then 25 for a tail said to be longer than that"; and 25 for one in which a whole packet stands,
+-- which no walk leaves and the papers leave free
 unfoldable pub nextPacket : List ℕ → ℕ → List ℕ → ℕ → Answer Found
 nextPacket buffer tail chunk at =
     unless 16 (leb tailRoom (length buffer))

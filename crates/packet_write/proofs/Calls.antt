@@ -1,9 +1,9 @@
 -- What each way out of writing a packet says of the answer and of the buffer.
 use Prim.Native.Nat.{ℕ, _+_, _-_, _/_, _^_, _≤_, _<_}
-use mathlib.Core.Path.{_≡_, refl, sym, _∙_}
+use mathlib.Core.Path.{_≡_, sym, _∙_}
 use mathlib.Core.Bool.{Bool, true, false, not}
 use mathlib.Core.List.{List}
-use lib.Dec.{leb, ltb}
+use lib.Dec.{leb}
 use lib.ListN.{length}
 use native.Mathlib.Nat.{div-eq-of-lt, lt-div-mul-add, one-le-pow}
 use native.Mathlib.Omega.{arith}
@@ -21,14 +21,13 @@ use Rattle.tables.specs.declared.Basis.{Basis}
 use Rattle.tables.specs.declared.Acceptance.{Acceptance}
 use Rattle.tables.specs.declared.Acceptance.the-variants as Accepts
 use Rattle.tables.specs.Accept.{acceptance}
-use Rattle.decimal.specs.Writing.{Room, Written}
+use Rattle.decimal.specs.Writing.{Written}
 use Rattle.buffer_print.specs.Printed.{Printed}
 use Rattle.buffer_print.proofs.Fitting.{print-fits, print-short}
 use Rattle.decode.specs.Decodable.{Decodable}
 use Rattle.decode.proofs.Accepted.{decodable}
 use Rattle.packet_rules.specs.declared.PacketHeader.{PacketHeader}
 use Rattle.packet_rules.specs.declared.TimeOctets.{TimeOctets}
-use Rattle.packet_rules.specs.Header.{timeEnd}
 use Rattle.packet_rules.specs.Read.{secondModulus}
 use Rattle.packet_rules.specs.Write.{mostDataOctets, dataOctets, writable, packetBytes, packetOf, writePacket}
 use Rattle.packet_clock.specs.Clock.{clockBasis}

@@ -23,7 +23,7 @@ use tables::Acceptance;
 // P-field, time and the data after it.
 const MOST_DATA_OCTETS: usize = 65_536;
 
-// The packet of an encoded count: the answer is its length. The second modulus must be 256 for each fine octet.
+// The packet of an encoded count: the answer is its length. The second modulus must be 256^f for f fine octets.
 pub fn write_packet(
     layout: Layout,
     starts: &[u64],

@@ -1,0 +1,2 @@
+-- Each way out, by the numbers that were mixed.
+pub mod Mixing

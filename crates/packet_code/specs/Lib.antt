@@ -1,0 +1,2 @@
+-- What is made of a packet's answer.
+pub mod Mixed
