@@ -35,6 +35,17 @@ pub fn next(x: u64) -> u64
     (x * 1_103_515_245 + 12_345) % 2_147_483_648
 }
 
+// Pseudo-random bytes.
+pub fn fill_bytes(bytes: &mut [u8]) {
+    let mut x: u64 = 1;
+    let mut i = 0;
+    while i < bytes.len() {
+        x = next(x);
+        bytes[i] = (x / 65_536 % 256) as u8;
+        i += 1;
+    }
+}
+
 // A number up to `most` made of one below 2^31.
 pub fn scaled(x: u64, most: u64) -> u64
     requires { ⌜ (x < 2147483648) × (most < 100000000000000) ⌝ }

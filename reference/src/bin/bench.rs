@@ -1,10 +1,12 @@
 //! The benchmark's questions, asked of the reference. Without a word it asks few of each and prints their checksums; with the
 //! word `time` it asks many and prints nanoseconds a call behind each checksum. The proved program `bench` does the same. With
-//! the word `host` in front it asks the questions of the proved program `bench_host`: those of the C calls.
+//! the word `host` in front it asks the questions of the proved program `bench_host`: those of the C calls. With the word
+//! `packets` in front it asks those of `bench_dump`: packets, and dumps of them.
 
 use std::fmt::Write;
 
 use reference::host::{self, LayoutSlices, PartitionSlices, SegmentSlices};
+use reference::packet::{self, Header, LONGEST};
 use reference::quotient::{down, down_by_bits, up, up_by_bits};
 use reference::{count_at, microseconds, print_count, print_stamp, read_kernel, read_message, read_stamp, read_text};
 use reference::{steps_back, time_of, Layout, Partitions, RawCounter, Segments};
@@ -30,6 +32,18 @@ const LAST: u64 = 65_536 * 60 * 800 - 1;
 /// "1,000×MSF".
 const UNIT: u64 = 48_000_000;
 const TEXTS: usize = 256;
+
+/// The clock of the packets: its time has four coarse octets and two fine ones. It has as many ticks as the other.
+const PACKET_LAYOUT: Layout =
+    Layout { n: 2, moduli: [48_000, 65_536, 0, 0, 0, 0, 0, 0, 0, 0], offsets: [0; 10], delimiter: 1 };
+const PACKETS: usize = 256;
+/// The largest encoded count, however many partitions there are.
+const ENCODED: u64 = LAST - 20_000;
+/// The dump, and the bytes of one walk: the dump over and over.
+const DUMP: usize = 1 << 20;
+const WALKED: usize = 64 * DUMP;
+/// The shortest packet.
+const SHORTEST: usize = 7;
 
 /// How many segments, and how often they are asked where it is timed.
 const SEGMENTS: [(u64, u64); 3] = [(1, 5_000_000), (100, 1_000_000), (10_000, 10_000)];
@@ -185,9 +199,12 @@ fn line(name: &str, times: u64, timed: bool, mut ask: impl FnMut(u64) -> u64) {
 fn main() {
     let mut words = std::env::args().skip(1).peekable();
     let host = words.next_if_eq("host").is_some();
+    let packets = words.next_if_eq("packets").is_some();
     let timed = words.next().as_deref() == Some("time");
     if host {
         host_lines(timed);
+    } else if packets {
+        packet_lines(timed);
     } else {
         lines(timed);
     }
@@ -415,5 +432,127 @@ fn partition_lines(rows: u64, times: u64, timed: bool) {
         let mut buffer = [0; 32];
         let length = host::print_stamp(layout.slices(), slices, scaled(x, total), &mut buffer);
         printed(returned(length), &buffer)
+    });
+}
+
+/// Packets under two partitions and under as many as there may be, then dumps.
+fn packet_lines(timed: bool) {
+    let payload = bytes(1_024);
+    for (rows, many, few) in [(2, 5_000_000, 1_000), (9_999, 20_000, 100)] {
+        let times = often(timed, many, few);
+        let ticks = LAST / rows - 1;
+        let start: Vec<u64> = (0..rows).map(|i| i * (ticks + 1)).collect();
+        let end: Vec<u64> = start.iter().map(|start| start + ticks).collect();
+        let partitions = Partitions { start: &start, end: &end };
+        read_line(&format!("read-packet-{rows}"), partitions, &payload[..100], times, timed);
+        write_line(&format!("write-packet-{rows}"), partitions, &payload[..100], times, timed);
+        if rows == 2 {
+            write_line("write-packet-1k", partitions, &payload, often(timed, 1_000_000, 1_000), timed);
+        }
+    }
+    walk_line("walk-mixed", &dump(SHORTEST, true), often(timed, 1_000, 1), timed);
+    walk_line("walk-1k", &dump(1_024, false), often(timed, 1_000, 1), timed);
+    walk_line("walk-7", &dump(SHORTEST, false), often(timed, 20, 1), timed);
+}
+
+/// Pseudo-random bytes.
+fn bytes(count: usize) -> Vec<u8> {
+    let mut x = 1;
+    let byte = |_| {
+        x = next(x);
+        (x / 65_536) as u8
+    };
+    (0..count).map(byte).collect()
+}
+
+fn header(x: u64) -> Header {
+    let fine = *unknown(&2);
+    let (packet_type, apid) = ((x / 65_536 % 2) as u8, (x / 256 % 2_048) as u16);
+    Header {
+        packet_type,
+        apid,
+        flags: (x / 1_024 % 4) as u8,
+        sequence: (x / 65_536 % 16_384) as u16,
+        coarse: fine + 2,
+        fine,
+    }
+}
+
+fn read_line(name: &str, partitions: Partitions, payload: &[u8], times: u64, timed: bool) {
+    let mut x = 1;
+    let packet = |_| {
+        x = next(x);
+        let mut buffer = [0; 113];
+        packet::write(&PACKET_LAYOUT, partitions, &header(x), scaled(x, ENCODED), payload, &mut buffer).unwrap();
+        buffer
+    };
+    let packets: Vec<[u8; 113]> = (0..PACKETS).map(packet).collect();
+    line(name, times, timed, |x| {
+        let packet = &packets[x as usize / 65_536 % PACKETS];
+        let read = packet::read(unknown(&PACKET_LAYOUT), *unknown(&partitions), packet).unwrap();
+        let Header { packet_type, apid, flags, sequence, coarse, fine } = read.header;
+        let words =
+            (u64::from(packet_type) << 40) + (u64::from(flags) << 32) + (u64::from(apid) << 16) + u64::from(sequence);
+        let octets = u64::from(coarse) * 16 + u64::from(fine);
+        read.count + read.encoded + words + octets + read.data as u64
+    });
+}
+
+fn write_line(name: &str, partitions: Partitions, payload: &[u8], times: u64, timed: bool) {
+    let mut buffer = [0; 2_048];
+    line(name, times, timed, |x| {
+        let (layout, partitions) = (unknown(&PACKET_LAYOUT), *unknown(&partitions));
+        let length = packet::write(layout, partitions, &header(x), scaled(x, ENCODED), payload, &mut buffer).unwrap();
+        let (byte, last) = (buffer[(x / 65_536 % 64) as usize], buffer[length - 1]);
+        length as u64 * 65_536 + u64::from(byte) * 256 + u64::from(last)
+    });
+}
+
+/// 1 MiB of packets of `least` bytes; or, where they are mixed, of up to 4,095 more, and every 64th the longest there is.
+fn dump(least: usize, mixed: bool) -> Vec<u8> {
+    let mut dump = bytes(DUMP);
+    let mut x = 1;
+    let (mut at, mut i) = (0, 0);
+    while at < DUMP {
+        x = next(x);
+        let drawn = match (mixed, i % 64) {
+            (false, _) => least,
+            (true, 63) => LONGEST,
+            (true, _) => least + (x / 32_768 % 4_096) as usize,
+        };
+        // What would be too short for another packet goes with it.
+        let left = DUMP - at;
+        let length = match left {
+            _ if left >= drawn + SHORTEST => drawn,
+            _ if left > LONGEST => left - SHORTEST,
+            _ => left,
+        };
+        dump[at + 4..at + 6].copy_from_slice(&((length - SHORTEST) as u16).to_be_bytes());
+        at += length;
+        i += 1;
+    }
+    dump
+}
+
+/// The dump is walked over and over, in pieces of up to 64 KiB that end with it. Of each packet its length and three of its
+/// bytes are looked at.
+fn walk_line(name: &str, dump: &[u8], times: u64, timed: bool) {
+    let mut buffer = vec![0; LONGEST];
+    line(name, times, timed, |question| {
+        let mut x = question;
+        let (mut sum, mut tail, mut at, mut left) = (0u64, 0, 0, WALKED);
+        while left > 0 {
+            x = next(x);
+            let end = (at + 1 + (x / 32_768) as usize).min(dump.len());
+            let tell = |packet: &[u8]| {
+                let [first, middle, last] = [0, packet.len() / 2, packet.len() - 1].map(|i| u64::from(packet[i]));
+                let told = (first * 65_536 + middle * 256 + last) * 1_048_576 + packet.len() as u64;
+                sum = sum.wrapping_mul(3).wrapping_add(told);
+            };
+            tail = packet::walk(&mut buffer, tail, &unknown(&dump)[at..end], tell).unwrap() as u64;
+            left -= end - at;
+            at = if end == dump.len() { 0 } else { end };
+        }
+        sum.wrapping_add(tail)
     });
 }
