@@ -49,7 +49,7 @@ fn tail_room() -> [u8; TAIL_ROOM]
     [0; TAIL_ROOM]
 }
 
-// Packets of `least` bytes; or, where they are mixed, of up to 4,095 more, and every 64th the longest there is.
+// Packets of `least` bytes; or, where they are mixed, most of up to 4,095 more, every 64th the longest there is.
 fn bench_dump(timed: bool, name: &[u8], least: usize, mixed: bool, asked: u64, dump: &mut [u8])
     requires { ⌜ (7 ≤ least) × (least ≤ 1024) ⌝ }
 {
@@ -88,6 +88,9 @@ fn drawn(x: u64, i: u64, least: usize, mixed: bool) -> usize
     }
     if i % 64 == 63 {
         return TAIL_ROOM;
+    }
+    if i % 16 == 15 {
+        return least;
     }
     least + (x / 32_768 % 4_096) as usize
 }

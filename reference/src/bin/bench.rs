@@ -508,7 +508,7 @@ fn write_line(name: &str, partitions: Partitions, payload: &[u8], times: u64, ti
     });
 }
 
-/// 1 MiB of packets of `least` bytes; or, where they are mixed, of up to 4,095 more, and every 64th the longest there is.
+/// 1 MiB of packets of `least` bytes; or, where they are mixed, most of up to 4,095 more, every 64th the longest there is.
 fn dump(least: usize, mixed: bool) -> Vec<u8> {
     let mut dump = bytes(DUMP);
     let mut x = 1;
@@ -518,6 +518,7 @@ fn dump(least: usize, mixed: bool) -> Vec<u8> {
         let drawn = match (mixed, i % 64) {
             (false, _) => least,
             (true, 63) => LONGEST,
+            (true, 15 | 31 | 47) => least,
             (true, _) => least + (x / 32_768 % 4_096) as usize,
         };
         // What would be too short for another packet goes with it.
