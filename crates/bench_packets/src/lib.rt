@@ -22,7 +22,9 @@ const MOST_ROWS: usize = 9_999;
 
 const PACKETS: usize = 256;
 
-// The bytes of a packet with a payload of a hundred bytes, and of as many as there are.
+const PAYLOAD: usize = 100;
+
+// The bytes of a packet with that payload, and of all.
 const PACKET: usize = 113;
 
 const ALL: usize = 28_928;
@@ -31,71 +33,32 @@ const ALL: usize = 28_928;
 const ENCODED: u64 = LAST - 20_000;
 
 pub fn bench(timed: bool) {
-    let mut starts = [0u64; MOST_ROWS];
-    let mut ends = [0u64; MOST_ROWS];
-    let mut payload = [0u8; 1_024];
+    let mut payload = [0u8; PAYLOAD];
     fill_bytes(&mut payload);
-    bench_rows(
-        timed,
-        &mut starts,
-        &mut ends,
-        2,
-        &payload[0..100],
-        often(timed, 5_000_000, 1_000),
-        b"read-packet-2",
-        b"write-packet-2",
-    );
-    bench_writes(
-        timed,
-        &starts[0..2],
-        &ends[0..2],
-        &payload,
-        often(timed, 1_000_000, 1_000),
-        b"write-packet-1k",
-    );
-    bench_rows(
-        timed,
-        &mut starts,
-        &mut ends,
-        MOST_ROWS,
-        &payload[0..100],
-        often(timed, 20_000, 100),
-        b"read-packet-9999",
-        b"write-packet-9999",
-    );
+    bench_two(timed, &payload);
+    bench_most(timed, &payload);
 }
 
-// The first `rows` of the lists become partitions.
-fn bench_rows(
-    timed: bool,
-    starts: &mut [u64],
-    ends: &mut [u64],
-    rows: usize,
-    payload: &[u8],
-    asked: u64,
-    read_name: &[u8],
-    write_name: &[u8],
-)
-    requires { ⌜ (1 ≤ rows) × (rows < 10000) ⌝ }
-    requires { ⌜ (rows ≤ length (now starts)) × (rows ≤ length (now ends)) ⌝ }
-{
-    fill(starts, ends, rows, ticks(rows as u64));
-    bench_reads(
-        timed,
-        &starts[0..rows],
-        &ends[0..rows],
-        payload,
-        asked,
-        read_name,
-    );
-    bench_writes(
-        timed,
-        &starts[0..rows],
-        &ends[0..rows],
-        payload,
-        asked,
-        write_name,
-    );
+fn bench_two(timed: bool, payload: &[u8; PAYLOAD]) {
+    let mut starts = [0u64; 2];
+    let mut ends = [0u64; 2];
+    fill(&mut starts, &mut ends, 2, ticks(2));
+    let asked = often(timed, 5_000_000, 1_000);
+    bench_reads(timed, &starts, &ends, payload, asked, b"read-packet-2");
+    bench_writes(timed, &starts, &ends, payload, asked, b"write-packet-2");
+    let mut kilobyte = [0u8; 1_024];
+    fill_bytes(&mut kilobyte);
+    let asked = often(timed, 1_000_000, 1_000);
+    bench_writes(timed, &starts, &ends, &kilobyte, asked, b"write-packet-1k");
+}
+
+fn bench_most(timed: bool, payload: &[u8; PAYLOAD]) {
+    let mut starts = [0u64; MOST_ROWS];
+    let mut ends = [0u64; MOST_ROWS];
+    fill(&mut starts, &mut ends, MOST_ROWS, ticks(9_999));
+    let asked = often(timed, 20_000, 100);
+    bench_reads(timed, &starts, &ends, payload, asked, b"read-packet-9999");
+    bench_writes(timed, &starts, &ends, payload, asked, b"write-packet-9999");
 }
 
 // The ticks of each of so many partitions, which the compiler cannot know.
