@@ -45,11 +45,19 @@ pub enum RawLine {
     Microseconds,
 }
 
+// A question about one packet.
+pub enum PacketQuestion {
+    Read,
+    Write,
+}
+
 pub enum Line {
     Table(TableLine),
     Ask(Question),
     Kernel,
     Raw(RawLine),
+    Packet(PacketQuestion),
+    Walk,
     PassedOver,
     Bad,
 }
@@ -68,16 +76,18 @@ pub type Numbers = [u64; MOST_NUMBERS];
 // Room for a name and a blank.
 const NAME_ROOM: usize = 13;
 
-const LINES: usize = 24;
+const LINES: usize = 27;
 
 type Row = [u8; NAME_ROOM + MOST_NUMBERS];
 
 // Each line's name, and a letter for the form of each word behind it:
 //     n  a number from 0 to 2^64 - 1
 //     b  a number from 0 to 255
+//     s  a number from 0 to 2^16 - 1
 //     w  a number from 0 to 2^32 - 1
 //     l  the length of a lent buffer, 0 to 256
 //     e  how many entries a lent list has, 0 to 40
+//     r  how many bytes of the tail buffer are lent, 0 to 65,600
 //     t  a time from -2^63 to 2^63 - 1, which is read as its ordinal
 //     d  the 16 hexadecimal digits of a double's bits
 //     h  bytes in hexadecimal; always the last
@@ -106,6 +116,9 @@ const ROWS: [Row; LINES] = [
     *b"raw-reset    nw                    ",
     *b"raw-read     w                     ",
     *b"microseconds ww                    ",
+    *b"read-packet  h                     ",
+    *b"write-packet bsbsbbnblh            ",
+    *b"walk         rnh                   ",
 ];
 
 fn line_of(row: usize) -> Line {
@@ -134,6 +147,9 @@ fn line_of(row: usize) -> Line {
         21 => Line::Raw(RawLine::Reset),
         22 => Line::Raw(RawLine::Read),
         23 => Line::Raw(RawLine::Microseconds),
+        24 => Line::Packet(PacketQuestion::Read),
+        25 => Line::Packet(PacketQuestion::Write),
+        26 => Line::Walk,
         _ => Line::Bad,
     }
 }
@@ -284,9 +300,11 @@ fn word_at(line: &[u8], at: usize, form: u8) -> Word
     match form {
         b'n' => numbers::decimal(line, from, u64::MAX),
         b'b' => numbers::decimal(line, from, 255),
+        b's' => numbers::decimal(line, from, 65_535),
         b'w' => numbers::decimal(line, from, 4_294_967_295),
         b'l' => numbers::decimal(line, from, 256),
         b'e' => numbers::decimal(line, from, 40),
+        b'r' => numbers::decimal(line, from, 65_600),
         b't' => numbers::time(line, from),
         b'd' => numbers::bits(line, from),
         _ => Word::Bad,

@@ -152,6 +152,13 @@ pub fn byte_of(number: u64) -> u8
     (number % 256) as u8
 }
 
+// A number of the form s.
+pub fn short_of(number: u64) -> u16
+    ensures { λ r. ⌜ r ≡ number % 65536 ⌝ }
+{
+    (number % 65_536) as u16
+}
+
 // A number of the form w.
 pub fn word_of(number: u64) -> u32
     ensures { λ r. ⌜ r ≡ number % 4294967296 ⌝ }
@@ -159,7 +166,7 @@ pub fn word_of(number: u64) -> u32
     (number % 4_294_967_296) as u32
 }
 
-// A number of the form l or e.
+// A number of the form l, e or r.
 pub fn lent_length(number: u64, most: u64) -> usize
     ensures { λ r. ⌜ r ≡ min number most ⌝ }
 {
