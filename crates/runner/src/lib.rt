@@ -17,6 +17,8 @@ use script_tables::Lists;
 use script_tables::MOST_ENTRIES;
 use script_tables::Sizes;
 use script_tables::TimeList;
+use walk_question::TAIL_BUFFER;
+use walk_question::TailBuffer;
 
 // An answer has at most seven lists of 40 numbers of 20 digits, and six words before them.
 const LONGEST_ANSWER: usize = 8192;
@@ -33,6 +35,7 @@ pub fn run() {
     let mut lists = [0u64; script_tables::LISTS_ROOM];
     let mut times = [0i64; MOST_ENTRIES];
     let mut counter = [0u64; raw_question::COUNTER_NUMBERS];
+    let mut tail = [0u8; TAIL_BUFFER];
     let mut line = line_room();
     let kept = answer_input(
         &mut line,
@@ -41,6 +44,7 @@ pub fn run() {
         &mut lists,
         &mut times,
         &mut counter,
+        &mut tail,
     );
     if kept > 0 {
         answer_last(
@@ -50,6 +54,7 @@ pub fn run() {
             &mut lists,
             &mut times,
             &mut counter,
+            &mut tail,
         );
     }
 }
@@ -69,6 +74,7 @@ fn answer_input(
     lists: &mut Lists,
     times: &mut TimeList,
     counter: &mut CounterNumbers,
+    tail: &mut TailBuffer,
 ) -> usize
     requires { ⌜ length (now line) ≡ lineBuffer ⌝ }
     requires { ⌜ Fit (now sizes) ⌝ }
@@ -93,6 +99,7 @@ fn answer_input(
             lists,
             times,
             counter,
+            tail,
         );
         turns -= 1;
     }
@@ -109,6 +116,7 @@ fn answer_lines(
     lists: &mut Lists,
     times: &mut TimeList,
     counter: &mut CounterNumbers,
+    tail: &mut TailBuffer,
 ) -> usize
     requires { ⌜ length (now line) ≡ lineBuffer ⌝ }
     requires { ⌜ kept ≤ lineBuffer ⌝ }
@@ -125,7 +133,18 @@ fn answer_lines(
     while at < chunk.len() {
         let step = lines::next(chunk, at, line, held);
         at = step.at;
-        let places = settle(step, line, layout, sizes, lists, times, counter, out, place);
+        let places = settle(
+            step,
+            line,
+            layout,
+            sizes,
+            lists,
+            times,
+            counter,
+            tail,
+            out,
+            place,
+        );
         held = places.kept;
         place = places.out;
     }
@@ -142,6 +161,7 @@ fn settle(
     lists: &mut Lists,
     times: &mut TimeList,
     counter: &mut CounterNumbers,
+    tail: &mut TailBuffer,
     out: &mut [u8],
     at: usize,
 ) -> Places
@@ -154,7 +174,17 @@ fn settle(
     let n = step.kept;
     if step.ended {
         let from = answers::with_room(out, at, LONGEST_ANSWER);
-        let place = answer_line(&line[0..n], layout, sizes, lists, times, counter, out, from);
+        let place = answer_line(
+            &line[0..n],
+            layout,
+            sizes,
+            lists,
+            times,
+            counter,
+            tail,
+            out,
+            from,
+        );
         return Places {
             kept: 0,
             out: place,
@@ -170,11 +200,12 @@ fn answer_last(
     lists: &mut Lists,
     times: &mut TimeList,
     counter: &mut CounterNumbers,
+    tail: &mut TailBuffer,
 )
     requires { ⌜ Fit (now sizes) ⌝ }
 {
     let mut buffer = [0u8; LONGEST_ANSWER];
     let out: &mut [u8] = &mut buffer;
-    let place = answer_line(line, layout, sizes, lists, times, counter, out, 0);
+    let place = answer_line(line, layout, sizes, lists, times, counter, tail, out, 0);
     answers::write_out(out, place);
 }

@@ -1,4 +1,4 @@
-// What one line of a script does: it changes the tables or the raw counter, or it is a question and has an answer.
+// What one line of a script does: it changes the tables, the raw counter or the tail buffer, or it is a question and has an answer, or both.
 ghost use Prim.Native.Nat.{_≤_};
 ghost use lib.ListN.{length};
 ghost use Rattle.put.specs.Places.{Put};
@@ -6,6 +6,7 @@ ghost use Rattle.script_tables.specs.Sizes.{Fit};
 use raw_question::CounterNumbers;
 use script_names::Line;
 use script_names::Numbers;
+use script_names::PacketQuestion;
 use script_names::Question;
 use script_names::RawLine;
 use script_names::TableLine;
@@ -17,10 +18,11 @@ use script_tables::STARTS;
 use script_tables::Sizes;
 use script_tables::Taken;
 use script_tables::TimeList;
+use walk_question::TailBuffer;
 
 pub const LONGEST_LINE: usize = 140_000;
 
-// Changes the tables and the raw counter as the line says, or puts its answer into the output, and answers the place after it.
+// Changes what the script keeps as the line says, puts its answer into the output, and answers the place after it.
 pub fn answer_line(
     line: &[u8],
     layout: &mut Numbers,
@@ -28,6 +30,7 @@ pub fn answer_line(
     lists: &mut Lists,
     times: &mut TimeList,
     counter: &mut CounterNumbers,
+    tail: &mut TailBuffer,
     out: &mut [u8],
     place: usize,
 ) -> usize
@@ -67,6 +70,18 @@ pub fn answer_line(
         ),
         Line::Kernel => kernel_question::read_kernel(&numbers, line, rest, out, place),
         Line::Raw(raw) => ask_counter(raw, &numbers, layout, sizes, lists, counter, out, place),
+        Line::Packet(question) => ask_packet(
+            question,
+            &numbers,
+            line,
+            rest,
+            layout,
+            sizes,
+            lists,
+            out,
+            place,
+        ),
+        Line::Walk => walk_question::walk(&numbers, line, rest, tail, out, place),
         Line::PassedOver => place,
         Line::Bad => answers::put_bad(out, place),
     }
@@ -144,6 +159,34 @@ fn ask_counter(
         script_tables::entries(lists, STARTS, sizes),
         script_tables::entries(lists, ENDS, sizes),
         counter,
+        out,
+        place,
+    )
+}
+
+fn ask_packet(
+    question: PacketQuestion,
+    numbers: &Numbers,
+    line: &[u8],
+    rest: usize,
+    layout: &Numbers,
+    sizes: &Sizes,
+    lists: &Lists,
+    out: &mut [u8],
+    place: usize,
+) -> usize
+    requires { ⌜ rest ≤ length (now line) ⌝ }
+    requires { ⌜ Fit (now sizes) ⌝ }
+    ensures { λ r. ⌜ Put place (now (out .entry)) r ⌝ }
+{
+    packet_question::answer(
+        question,
+        numbers,
+        line,
+        rest,
+        script_tables::layout_of(layout),
+        script_tables::entries(lists, STARTS, sizes),
+        script_tables::entries(lists, ENDS, sizes),
         out,
         place,
     )

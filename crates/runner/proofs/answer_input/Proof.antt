@@ -8,11 +8,11 @@ use Rattle.runner.proofs.answer_input.Statement.{statement}
 use Rattle.runner.proofs.answer_input.Tie as tie
 
 abbrev Inv-loop : tie.InvT-loop
-Inv-loop line₀ layout₀ sizes₀ lists₀ times₀ counter₀ chunk₀ kept₀ turns₀ line layout sizes lists times counter chunk kept turns =
+Inv-loop line₀ layout₀ sizes₀ lists₀ times₀ counter₀ tail₀ chunk₀ kept₀ turns₀ line layout sizes lists times counter tail chunk kept turns =
     (length line ≡ lineBuffer) × (length chunk ≡ 65536) × (kept ≤ lineBuffer) × Fit sizes
 
 abbrev μ-loop : tie.MeasureT-loop
-μ-loop line₀ layout₀ sizes₀ lists₀ times₀ counter₀ chunk₀ kept₀ turns₀ line layout sizes lists times counter chunk kept turns =
+μ-loop line₀ layout₀ sizes₀ lists₀ times₀ counter₀ tail₀ chunk₀ kept₀ turns₀ line layout sizes lists times counter tail chunk kept turns =
     turns
 
 loop-again : tie.Need-loop-again Inv-loop μ-loop

@@ -10,11 +10,11 @@ use Rattle.runner.proofs.answer_lines.Statement.{statement}
 use Rattle.runner.proofs.answer_lines.Tie as tie
 
 abbrev Inv-loop : tie.InvT-loop
-Inv-loop chunk line₀ kept layout₀ sizes₀ lists₀ times₀ counter₀ out₀ at₀ held₀ place₀ line layout sizes lists times counter out at held place =
+Inv-loop chunk line₀ kept layout₀ sizes₀ lists₀ times₀ counter₀ tail₀ out₀ at₀ held₀ place₀ line layout sizes lists times counter tail out at held place =
     (at ≤ length chunk) × (held ≤ lineBuffer) × (length line ≡ lineBuffer) × Fit sizes × (lineLeft lineBuffer (take kept line₀) chunk ≡ lineLeft lineBuffer (take held line) (drop at chunk))
 
 abbrev μ-loop : tie.MeasureT-loop
-μ-loop chunk line₀ kept layout₀ sizes₀ lists₀ times₀ counter₀ out₀ at₀ held₀ place₀ line layout sizes lists times counter out at held place =
+μ-loop chunk line₀ kept layout₀ sizes₀ lists₀ times₀ counter₀ tail₀ out₀ at₀ held₀ place₀ line layout sizes lists times counter tail out at held place =
     length chunk - at
 
 loop-again : tie.Need-loop-again Inv-loop μ-loop
