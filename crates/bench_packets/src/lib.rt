@@ -143,7 +143,7 @@ fn told(packet: Packet) -> u64 {
     let counts = std::num::wrapping_add_u64(packet.count, packet.encoded);
     let sum = std::num::wrapping_add_u64(counts, words(header));
     let sum = std::num::wrapping_add_u64(sum, octets.coarse as u64 * 16 + octets.fine as u64);
-    std::num::wrapping_add_u64(sum, packet.payload as u64)
+    std::num::wrapping_add_u64(sum, packet.payload_at as u64)
 }
 
 fn words(header: PacketHeader) -> u64 {

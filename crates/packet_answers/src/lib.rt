@@ -52,7 +52,7 @@ fn put_read(out: &mut [u8], at: usize, packet: Packet) -> usize
 {
     let place = put_header(out, at, packet.header);
     let place = put_octets(out, place, packet.octets);
-    let place = put_word(out, place, packet.payload as u64);
+    let place = put_word(out, place, packet.payload_at as u64);
     let place = put_word(out, place, packet.count);
     let place = put_word(out, place, packet.encoded);
     put::byte(out, place, LINE_END)

@@ -1,7 +1,7 @@
 // Adler-32 of bytes (RFC 1950).
 ghost use mathlib.Core.Path.{_≡_};
 ghost use Rattle.packet_answers.specs.Sum;
-use packet_octets::wide;
+use packet_octets::as_word;
 
 // The largest prime below 65,536.
 const BASE: u64 = 65_521;
@@ -13,7 +13,7 @@ pub fn adler(bytes: &[u8]) -> u64
     let mut b: u64 = 0;
     let mut i = 0;
     while i < bytes.len() {
-        a = (a + wide(bytes[i])) % BASE;
+        a = (a + as_word(bytes[i])) % BASE;
         b = (b + a) % BASE;
         i += 1;
     }

@@ -15,7 +15,7 @@ unfolding with
 mix-is x y t r e f = f ∙ rw e
 
 pub packet-mixed : (k : Packet) (a b c d e f g h r : ℕ) → a ≡ with 0 (k .header .kind) → b ≡ with a (k .header .apid) → c ≡ with b (k .header .flags) → d ≡ with c (k .header .sequence)
-    → e ≡ with d (k .octets .coarse) → f ≡ with e (k .octets .fine) → g ≡ with f (k .payload) → h ≡ with g (k .count) → r ≡ with h (k .encoded) → r ≡ mixedPacket k
+    → e ≡ with d (k .octets .coarse) → f ≡ with e (k .octets .fine) → g ≡ with f (k .«payload_at») → h ≡ with g (k .count) → r ≡ with h (k .encoded) → r ≡ mixedPacket k
 unfolding mixedPacket
 packet-mixed k a b c d e f g h r ea eb ec ed ee ef eg eh er = er ∙ rw (eh, eg, ef, ee, ed, ec, eb, ea)
 

@@ -12,7 +12,7 @@ with x y = ((x + x) % 2 ^ 64 + y) % 2 ^ 64
 
 unfoldable pub mixedPacket : Packet → ℕ
 mixedPacket k =
-    with (with (with (with (with (with (with (with (with 0 (k .header .kind)) (k .header .apid)) (k .header .flags)) (k .header .sequence)) (k .octets .coarse)) (k .octets .fine)) (k .payload)) (k .count)) (k .encoded)
+    with (with (with (with (with (with (with (with (with 0 (k .header .kind)) (k .header .apid)) (k .header .flags)) (k .header .sequence)) (k .octets .coarse)) (k .octets .fine)) (k .«payload_at»)) (k .count)) (k .encoded)
 
 abbrev pub withPlace : ℕ → Place → ℕ
 withPlace n Places.None = n

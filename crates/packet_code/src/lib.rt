@@ -47,7 +47,7 @@ fn mix_packet(packet: Packet) -> u64
     let x = mix(x, header.sequence as u64);
     let x = mix(x, octets.coarse as u64);
     let x = mix(x, octets.fine as u64);
-    let x = mix(x, packet.payload as u64);
+    let x = mix(x, packet.payload_at as u64);
     let x = mix(x, packet.count);
     mix(x, packet.encoded)
 }

@@ -48,7 +48,7 @@ module _ (l : Layout) (p : Partitions) (s : List ℕ) where
   c = packetTicks l s
 
   abbrev found : ℕ → Packet
-  found e = record { header = headerIn s; octets = octetsIn s; payload = timeEnd (octetsIn s); count = c; encoded = e }
+  found e = record { header = headerIn s; octets = octetsIn s; «payload_at» = timeEnd (octetsIn s); count = c; encoded = e }
 
   -- behind the tables
   first-packet : ((i : ℕ) × FirstToHold p c i × (packetAt p s c ≡ answer (found (encodedIn p c i)))) ⊎ (NoneHolds p c × (packetAt p s c ≡ refuse 11))
@@ -64,7 +64,7 @@ module _ (l : Layout) (p : Partitions) (s : List ℕ) where
         clock = t;
         header = refl;
         octets = refl;
-        payload = refl;
+        payload-at = refl;
         payload-within = g .within;
         count = refl;
         below = omega (arith, row .in-range, f .it .to);

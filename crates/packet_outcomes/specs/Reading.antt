@@ -46,8 +46,8 @@ pub record ReadAs (l : Layout) (p : Partitions) (s : List ℕ) (k : Packet) : Ty
   pub clock : GoodClock l p
   pub header : k .header ≡ headerIn s
   pub octets : k .octets ≡ octetsIn s
-  pub payload : k .payload ≡ timeEnd (octetsIn s)
-  pub payload-within : k .payload ≤ length s
+  pub payload-at : k .«payload_at» ≡ timeEnd (octetsIn s)
+  pub payload-within : k .«payload_at» ≤ length s
   pub count : k .count ≡ packetTicks l s
   pub below : k .count < productOf l
   -- "the partition is found as for a stamp without one"

@@ -36,7 +36,7 @@ clockCount p w = decodedIn p (w .encoded) (partitionOf p (w .encoded))
 
 -- "the same clock count", the same header fields and octets, where the data stand, and some encoded count
 abbrev pub backWith : Partitions → Content → ℕ → Packet
-backWith p w e = record { header = w .header; octets = w .octets; payload = timeEnd (w .octets); count = clockCount p w; encoded = e }
+backWith p w e = record { header = w .header; octets = w .octets; «payload_at» = timeEnd (w .octets); count = clockCount p w; encoded = e }
 
 -- "no earlier partition holds it"
 abbrev pub NoEarlierHolds : Partitions → Content → Type 0

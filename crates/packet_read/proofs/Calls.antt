@@ -34,7 +34,7 @@ use Rattle.packet_read.proofs.Ticks.{cap-same}
 -- by the partition that holds the count
 module _ (p : Partitions) (h : Held p) (s : List ℕ) (t c : ℕ) (ec : c ≡ min t largestP) (r : Encoded) (er : encodedAnswer r ≡ encodeFirst p c) where
   pub held-by : (e : ℕ) → r ≡ Encodes.Count e → (head : PacketHeader) → head ≡ headerIn s → (o : TimeOctets) → TimeThere o s → (end : ℕ) → end ≡ timeEnd o
-      → answer (record { header = head; octets = o; payload = end; count = c; encoded = e }) ≡ packetAt p s t
+      → answer (record { header = head; octets = o; «payload_at» = end; count = c; encoded = e }) ≡ packetAt p s t
   unfolding packetAt andThen
   held-by e q head eh o there end ee = rw (eh, ee, there .octets) (sym (rw (← (cap-same p h s t), ← ec, ← er, q)))
 

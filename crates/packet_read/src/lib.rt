@@ -128,7 +128,7 @@ fn count_packet(
         Encoded::Count(encoded) => PacketAnswer::Read(Packet {
             header: header_of(packet),
             octets,
-            payload: time_end(octets),
+            payload_at: time_end(octets),
             count,
             encoded,
         }),

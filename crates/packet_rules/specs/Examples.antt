@@ -24,7 +24,7 @@ abbrev pub timeOctets : ℕ → ℕ → TimeOctets
 timeOctets coarse fine = record { coarse = coarse; fine = fine }
 
 abbrev pub packet : PacketHeader → TimeOctets → ℕ → ℕ → ℕ → Packet
-packet h o payload count encoded = record { header = h; octets = o; payload = payload; count = count; encoded = encoded }
+packet h o at count encoded = record { header = h; octets = o; «payload_at» = at; count = count; encoded = encoded }
 
 -- a clock of two fields with these moduli, whose second offset is 1; clocks of one field and of three
 unfoldable pub clock : ℕ → ℕ → Layout

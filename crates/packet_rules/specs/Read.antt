@@ -49,7 +49,7 @@ ticksIn m o s = ticks m (o .fine) (big (take (o .coarse) (drop timeStart s))) (b
 unfoldable pub packetAt : Partitions → List ℕ → ℕ → Answer Packet
 packetAt p s c =
     andThen (encodeFirst p c)
-    (λ e. answer (record { header = headerIn s; octets = octetsIn s; payload = timeEnd (octetsIn s); count = c; encoded = e }))
+    (λ e. answer (record { header = headerIn s; octets = octetsIn s; «payload_at» = timeEnd (octetsIn s); count = c; encoded = e }))
 
 -- The call.
 unfoldable pub readPacket : Layout → Partitions → List ℕ → Answer Packet

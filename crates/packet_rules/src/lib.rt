@@ -25,7 +25,7 @@ pub struct TimeOctets {
 pub struct Packet {
     pub header: PacketHeader,
     pub octets: TimeOctets,
-    pub payload: usize,
+    pub payload_at: usize,
     pub count: u64,
     pub encoded: u64,
 }
