@@ -399,13 +399,18 @@ fn text_lines(times: u64, timed: bool) {
     });
 }
 
-/// Stamps and messages under so many partitions, by the inner calls and the C calls. Each partition has so many ticks, and
-/// one is left out before the next.
-fn partition_lines(rows: u64, times: u64, timed: bool) {
+/// So many partitions, of so many ticks each; one is left out before the next.
+fn equal_partitions(rows: u64) -> (u64, Vec<u64>, Vec<u64>) {
     let ticks = LAST / rows - 1;
-    let total = rows * ticks;
     let start: Vec<u64> = (0..rows).map(|i| i * (ticks + 1)).collect();
-    let end: Vec<u64> = start.iter().map(|start| start + ticks).collect();
+    let end = start.iter().map(|start| start + ticks).collect();
+    (ticks, start, end)
+}
+
+/// Stamps and messages under so many partitions, by the inner calls and the C calls.
+fn partition_lines(rows: u64, times: u64, timed: bool) {
+    let (ticks, start, end) = equal_partitions(rows);
+    let total = rows * ticks;
     let (starts, ends) = (list(&start), list(&end));
     let partitions = Partitions { start: &start, end: &end };
     let slices = PartitionSlices { starts: &starts, ends: &ends };
@@ -440,9 +445,7 @@ fn packet_lines(timed: bool) {
     let payload = bytes(1_024);
     for (rows, many, few) in [(2, 5_000_000, 1_000), (9_999, 20_000, 100)] {
         let times = often(timed, many, few);
-        let ticks = LAST / rows - 1;
-        let start: Vec<u64> = (0..rows).map(|i| i * (ticks + 1)).collect();
-        let end: Vec<u64> = start.iter().map(|start| start + ticks).collect();
+        let (_, start, end) = equal_partitions(rows);
         let partitions = Partitions { start: &start, end: &end };
         read_line(&format!("read-packet-{rows}"), partitions, &payload[..100], times, timed);
         write_line(&format!("write-packet-{rows}"), partitions, &payload[..100], times, timed);
