@@ -3,7 +3,7 @@ use mathlib.Core.Path.{_≡_}
 use lib.ListN.{length}
 use borrow.Author.Needs.{needs}
 use Rattle.script_tables.specs.Sizes.{Fit}
-use Rattle.runner.specs.Room.{lineBuffer}
+use Rattle.script_chunk.specs.Room.{lineBuffer}
 use Rattle.runner.proofs.answer_input.Statement.{statement}
 use Rattle.runner.proofs.answer_input.Tie as tie
 

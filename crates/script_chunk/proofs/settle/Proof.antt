@@ -1,7 +1,7 @@
 use borrow.Author.Needs.{needs}
-use Rattle.runner.proofs.Ended.{none-kept, still-kept}
-use Rattle.runner.proofs.settle.Statement.{statement}
-use Rattle.runner.proofs.settle.Tie as tie
+use Rattle.script_chunk.proofs.Ended.{none-kept, still-kept}
+use Rattle.script_chunk.proofs.settle.Statement.{statement}
+use Rattle.script_chunk.proofs.settle.Tie as tie
 
 returns : tie.Need-returns
 returns c = (search (none-kept, needs), (search needs, search needs))

@@ -5,9 +5,9 @@ use borrow.Author.Needs.{needs}
 use Rattle.lines.specs.Steps.{lineLeft}
 use Rattle.lines.proofs.Turn.{left-turn, left-done}
 use Rattle.script_tables.specs.Sizes.{Fit}
-use Rattle.runner.specs.Room.{lineBuffer}
-use Rattle.runner.proofs.answer_lines.Statement.{statement}
-use Rattle.runner.proofs.answer_lines.Tie as tie
+use Rattle.script_chunk.specs.Room.{lineBuffer}
+use Rattle.script_chunk.proofs.answer_lines.Statement.{statement}
+use Rattle.script_chunk.proofs.answer_lines.Tie as tie
 
 abbrev Inv-loop : tie.InvT-loop
 Inv-loop chunk line₀ kept layout₀ sizes₀ lists₀ times₀ counter₀ tail₀ out₀ at₀ held₀ place₀ line layout sizes lists times counter tail out at held place =
