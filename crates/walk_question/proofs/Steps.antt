@@ -1,7 +1,7 @@
 -- Where a step's packet or tail stands: within the chunk or the buffer, and the walk goes on behind it.
 use Prim.Native.Nat.{ℕ, _+_, _-_, _≤_, _<_}
 use mathlib.Core.Path.{_≡_, sym, ap, _∙_}
-use mathlib.Core.Bool.{true, false, not}
+use mathlib.Core.Bool.{true, false}
 use mathlib.Core.List.{List, _++_}
 use lib.Dec.{leb, eqb}
 use lib.ListN.{length, take, drop, length-append, length-take, length-drop}
@@ -18,11 +18,11 @@ use Rattle.packet_rules.specs.declared.Span.{Span}
 use Rattle.packet_rules.specs.declared.Joined.{Joined}
 use Rattle.packet_rules.specs.Header.{headerOctets, packetLength}
 use Rattle.packet_rules.specs.Walk.{tailRoom, isWhole, left, Found, inChunk, inBuffer, onlyTail, foundIn, nextPacket, writtenBy, tailBufferAfter, stepAnswer}
+use Rattle.packet_rules.proofs.Lengths.{whole-length, not-whole-length, length-more}
 use Rattle.walk_question.specs.declared.Left.{Left}
 use Rattle.walk_question.specs.declared.Walked.{Walked}
 use Rattle.walk_question.specs.declared.Walked.the-variants as Ways
 use Rattle.walk_question.specs.Walked.{WithinBy}
-use Rattle.packet_rules.proofs.Lengths.{whole-length, not-whole-length, length-more}
 
 module _ (b : List ℕ) (tail : ℕ) (chunk : List ℕ) (at : ℕ) where
   abbrev size : ℕ
@@ -95,7 +95,7 @@ module _ (b : List ℕ) (tail : ℕ) (chunk : List ℕ) (at : ℕ) where
       pub chunk-falls : length chunk - span .end < length chunk - at
       chunk-falls = omega (arith, in-chunk .1, in-chunk .2)
 
-    module _ {after : List ℕ} (left-so : after ≡ tailBufferAfter b tail chunk at) (same : length after ≡ length b) where
+    module _ {after : List ℕ} (after-is : after ≡ tailBufferAfter b tail chunk at) (same : length after ≡ length b) where
       module _ {joined : Joined} (e : step ≡ Out.InBuffer joined) where
         buffer-said : nextPacket b tail chunk at ≡ answer (inBuffer (joined .length) (joined .at))
         buffer-said = sym says ∙ rw e
@@ -114,7 +114,7 @@ module _ (b : List ℕ) (tail : ℕ) (chunk : List ℕ) (at : ℕ) where
         unfolding tailBufferAfter writtenBy bufferAfter
         joined-within =
             let s : List ℕ = take (joined .length) (left b tail chunk at) in
-            let written : after ≡ s ++ drop (length s) b = left-so ∙ rw buffer-said in
+            let written : after ≡ s ++ drop (length s) b = after-is ∙ rw buffer-said in
             omega (arith, in-buffer .1, whole-left, length-take (joined .length) (left b tail chunk at), ap length written, length-append s (drop (length s) b))
 
         pub joined-falls : length chunk - joined .at < length chunk - at
@@ -135,7 +135,7 @@ module _ (b : List ℕ) (tail : ℕ) (chunk : List ℕ) (at : ℕ) where
         unfolding tailBufferAfter writtenBy bufferAfter
         tail-within =
             let s : List ℕ = left b tail chunk at in
-            let written : after ≡ s ++ drop (length s) b = left-so ∙ rw tail-said in
+            let written : after ≡ s ++ drop (length s) b = after-is ∙ rw tail-said in
             omega (arith, all-left, ap length written, length-append s (drop (length s) b))
 
 -- what is known of a walk that was answered

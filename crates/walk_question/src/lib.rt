@@ -17,10 +17,13 @@ pub type TailBuffer = [u8; TAIL_BUFFER];
 
 pub const TAIL_BUFFER: usize = 65_600;
 
+// So many of its bytes may be lent.
+const MOST_LENT: u64 = TAIL_BUFFER as u64;
+
 // The most bytes of a piece of a dump.
 const MOST_BYTES: usize = 2000;
 
-// Room for the words of all packets that end in one piece: at most 286, a word of up to 12 bytes for each but one.
+// Room for the words of all packets that end in one piece: one that began in the tail, and up to 285 of seven bytes or more.
 const WORDS_ROOM: usize = 4096;
 
 // What a walk over one piece leaves: the tail's length, and where the packets' words end.
@@ -49,7 +52,7 @@ pub fn walk(
     let mut bytes = [0u8; MOST_BYTES];
     match read_bytes(line, rest, &mut bytes) {
         ByteWord::Length(n) => {
-            let size = lent_length(numbers[0], TAIL_BUFFER as u64);
+            let size = lent_length(numbers[0], MOST_LENT);
             let tail = numbers[1] as usize;
             lend(buffer, size, tail, first_bytes(&bytes, n), out, place)
         }
@@ -117,13 +120,14 @@ fn walk_chunk(buffer: &mut [u8], tail: usize, chunk: &[u8], words: &mut [u8]) ->
         match next_packet(buffer, held, chunk, at) {
             WalkStep::InChunk(span) => {
                 let start = span.start;
-                at = span.end;
-                end = put_walked(words, end, &chunk[start..at]);
+                let stop = span.end;
+                end = put_walked(words, end, &chunk[start..stop]);
+                at = stop;
             }
             WalkStep::InBuffer(joined) => {
                 let length = joined.length;
-                at = joined.at;
                 end = put_walked(words, end, &buffer[0..length]);
+                at = joined.at;
             }
             WalkStep::Tail(n) => {
                 return Walked::Tail(Left {
