@@ -7,8 +7,10 @@ use lib.ListN.{length, replicate}
 use Rattle.rules.specs.Answer.{answer, refuseAt, timedStamp}
 use Rattle.rules.specs.Computing.{computing}
 use Rattle.rules.specs.Examples.{bytes, layoutA, partitionsA, segmentsA}
+use Rattle.number_text.specs.Numbers.{decimalOf, timeBytes}
 use Rattle.lines.specs.Lines.{linesOf, withByte}
-use Rattle.stamp_lines.specs.Output.{lineStamp, decimalOf, timeBytes, placeBytes, refusalBytes, stampBytes, answerLine, answersOf, outputOf, longestNumbers, longestAnswer}
+use Rattle.line_output.specs.Output.{answersOf, outputOf}
+use Rattle.stamp_lines.specs.Output.{lineStamp, placeBytes, refusalBytes, stampBytes, answerLine, stampOutput, longestNumbers, longestAnswer}
 use Rattle.stamp_lines.specs.Pieces.{lineBuffer}
 
 -- some lines, each ended by byte 10
@@ -38,7 +40,7 @@ cases =
     (endedLines (bytes "refused 5 1" ∷ bytes "refused 7 4" ∷ bytes "refused 7 5" ∷ bytes "refused 9 3" ∷ bytes "refused 10" ∷ []))
     ∷ []
 
-pub cases-hold : map (λ c. outputOf (c .input)) cases ≡ map (λ c. c .expected) cases
+pub cases-hold : map (λ c. stampOutput (c .input)) cases ≡ map (λ c. c .expected) cases
 unfolding computing bytes layoutA partitionsA segmentsA linesOf withByte flatten lineStamp decimalOf timeBytes placeBytes refusalBytes stampBytes answerLine answersOf outputOf endedLines case cases
 cases-hold = refl
 

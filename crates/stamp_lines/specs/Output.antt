@@ -1,30 +1,21 @@
 -- "The stamp program holds table A, reads lines (up to byte 10 or the end of input) from standard input .. and prints encoded
 -- count and time, or `refused` and the number." Request 3: a place is printed after the number.
 use Prim.Native.Nat.{ℕ, _+_}
-use mathlib.Core.List.{List, [], _∷_, _++_, map, flatten}
-use lib.IntN.{ℤ, pos, negsuc}
-use Rattle.lines.specs.Lines.{lineEnd, linesOf}
+use mathlib.Core.List.{List, [], _∷_, _++_}
+use Rattle.lines.specs.Lines.{lineEnd}
+use Rattle.line_output.specs.Output.{outputOf}
 use Rattle.rules.specs.declared.Place.{Place}
 use Rattle.rules.specs.declared.Place.the-variants as Places
 use Rattle.rules.specs.declared.Refusal.{Refusal}
 use Rattle.rules.specs.declared.TimedStamp.{TimedStamp}
 use Rattle.rules.specs.Answer.{Answer, answer, refused}
-use Rattle.rules.specs.Print.{digitCount, lastDigits}
+use Rattle.number_text.specs.Numbers.{decimalOf, timeBytes, longestNumber}
 use Rattle.rules.specs.StampTime.{timeOfStamp}
 use Rattle.rules.specs.Examples.{bytes, layoutA, partitionsA, segmentsA}
 
 -- a line under table A
 unfoldable pub lineStamp : List ℕ → Answer TimedStamp
 lineStamp line = timeOfStamp layoutA partitionsA segmentsA line
-
--- a number in decimal digits
-unfoldable pub decimalOf : ℕ → List ℕ
-decimalOf x = lastDigits (digitCount x) x
-
--- a time, with `-` in front where it is negative
-unfoldable pub timeBytes : ℤ → List ℕ
-timeBytes (pos n) = decimalOf n
-timeBytes (negsuc n) = 45 ∷ decimalOf (n + 1)
 
 -- a refusal's number, a blank and its place where it has one, and the byte that ends its line
 unfoldable pub placeBytes : Place → List ℕ
@@ -42,17 +33,9 @@ stampBytes (refused k) = bytes "refused " ++ refusalBytes k
 unfoldable pub answerLine : List ℕ → List ℕ
 answerLine line = stampBytes (lineStamp line)
 
--- the answers of some lines, behind one another
-unfoldable pub answersOf : List (List ℕ) → List ℕ
-answersOf ls = flatten (map answerLine ls)
-
 -- "its whole output"
-unfoldable pub outputOf : List ℕ → List ℕ
-outputOf input = answersOf (linesOf input)
-
--- the most bytes of a 64-bit number: 20 digits, or `-` and 19
-abbrev pub longestNumber : ℕ
-longestNumber = 20
+abbrev pub stampOutput : List ℕ → List ℕ
+stampOutput input = outputOf answerLine input
 
 -- the most bytes of two numbers, the blank and byte 10
 abbrev pub longestNumbers : ℕ

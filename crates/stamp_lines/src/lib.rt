@@ -9,8 +9,9 @@ ghost use Rattle.rules.specs.Answer.{stampAnswer};
 ghost use Rattle.rules.specs.Examples.{layoutA};
 ghost use Rattle.lines.specs.Steps.{lineLeft};
 ghost use Rattle.decimal.specs.Writing.{Written};
-ghost use Rattle.stamp_lines.specs.Output.{lineStamp, longestAnswer};
-ghost use Rattle.stamp_lines.specs.Pieces.{lineBuffer, lastAnswer, endedAnswer, Answered, ToTheEnd};
+ghost use Rattle.line_output.specs.Pieces.{lastAnswer, endedAnswer, Answered};
+ghost use Rattle.stamp_lines.specs.Output.{lineStamp, answerLine, longestAnswer};
+ghost use Rattle.stamp_lines.specs.Pieces.{lineBuffer, ToTheEnd};
 use crate::put::LONGEST_ANSWER;
 use crate::put::put_stamp;
 use libc::STDIN_FILENO;
@@ -105,7 +106,7 @@ pub fn answer_chunk(
     requires { ⌜ length (now line) ≡ lineBuffer ⌝ }
     requires { ⌜ kept ≤ lineBuffer ⌝ }
     requires { ⌜ longestAnswer ≤ length (now out) ⌝ }
-    ensures { λ r. ⌜ Answered (now (chunk .entry)) at (r .at) (take kept (now (line .entry))) (r .kept) (now (line .exit)) (r .put) (now (out .entry)) (now (out .exit)) ⌝ }
+    ensures { λ r. ⌜ Answered answerLine lineBuffer (now (chunk .entry)) at (r .at) (take kept (now (line .entry))) (r .kept) (now (line .exit)) (r .put) (now (out .entry)) (now (out .exit)) ⌝ }
     ensures { λ r. ⌜ min (at + 1) (length (now (chunk .entry))) ≤ r .at ⌝ }
 {
     // the last place with room for the longest answer
@@ -137,7 +138,7 @@ pub fn answer_chunk(
 fn put_ended(out: &mut [u8], at: usize, step: LineStep, line: &[u8]) -> usize
     requires { ⌜ step .kept ≤ length (now line) ⌝ }
     requires { ⌜ at + longestAnswer ≤ length (now out) ⌝ }
-    ensures { λ r. ⌜ Written (endedAnswer (step .ended) (take (step .kept) (now (line .entry)))) r at (now (out .entry)) (now (out .exit)) ⌝ }
+    ensures { λ r. ⌜ Written (endedAnswer answerLine (step .ended) (take (step .kept) (now (line .entry)))) r at (now (out .entry)) (now (out .exit)) ⌝ }
     ensures { λ r. ⌜ r ≤ at + longestAnswer ⌝ }
 {
     let n = step.kept;
@@ -159,7 +160,7 @@ fn kept_after(step: LineStep) -> usize
 pub fn answer_last(line: &[u8], kept: usize, out: &mut [u8]) -> usize
     requires { ⌜ kept ≤ length (now line) ⌝ }
     requires { ⌜ longestAnswer ≤ length (now out) ⌝ }
-    ensures { λ r. ⌜ Written (lastAnswer (take kept (now (line .entry)))) r 0 (now (out .entry)) (now (out .exit)) ⌝ }
+    ensures { λ r. ⌜ Written (lastAnswer answerLine (take kept (now (line .entry)))) r 0 (now (out .entry)) (now (out .exit)) ⌝ }
     ensures { λ r. ⌜ r ≤ length (now (out .entry)) ⌝ }
 {
     if 0 < kept {

@@ -6,10 +6,10 @@ ghost use lib.ListN.{length};
 ghost use Rattle.rules.specs.Answer.{stampAnswer, answer, refused};
 ghost use Rattle.rules.specs.Print.{digitCount};
 ghost use Rattle.decimal.specs.Writing.{Written};
-ghost use Rattle.lines.specs.Lines.{lineEnd};
-ghost use Rattle.stamp_lines.specs.Output.{decimalOf, timeBytes, refusalBytes, stampBytes, longestNumber, longestNumbers, longestAnswer};
-use decimal::digit_count;
-use decimal::write_digits;
+ghost use Rattle.stamp_lines.specs.Output.{refusalBytes, stampBytes, longestNumbers, longestAnswer};
+use number_text::put_bytes;
+use number_text::put_number;
+use number_text::put_time;
 use rules::Place;
 use rules::Refusal;
 use rules::StampAnswer;
@@ -21,8 +21,6 @@ pub const LONGEST_ANSWER: usize = 50;
 const LINE_END: u8 = b'\n';
 
 const BLANK: u8 = b' ';
-// The ordinal of the time 0.
-const ZERO: u64 = 0x8000_0000_0000_0000;
 
 pub fn put_stamp(out: &mut [u8], at: usize, answer: StampAnswer) -> usize
     requires { ⌜ at + longestAnswer ≤ length (now out) ⌝ }
@@ -41,7 +39,7 @@ fn put_timed(out: &mut [u8], at: usize, stamp: TimedStamp) -> usize
     ensures { λ r. ⌜ r ≤ at + longestAnswer ⌝ }
 {
     let place = put_number(out, at, stamp.count, BLANK);
-    put_time(out, place, stamp.time)
+    put_time(out, place, stamp.time, LINE_END)
 }
 
 fn put_refused(out: &mut [u8], at: usize, refusal: Refusal) -> usize
@@ -68,44 +66,4 @@ fn put_refusal(out: &mut [u8], at: usize, refusal: Refusal) -> usize
             put_number(out, place, i as u64, LINE_END)
         }
     }
-}
-
-// A time and byte 10.
-fn put_time(out: &mut [u8], at: usize, time: i64) -> usize
-    requires { ⌜ at + longestNumber < length (now out) ⌝ }
-    ensures { λ r. ⌜ Written (timeBytes time ++ (lineEnd ∷ [])) r at (now (out .entry)) (now (out .exit)) ⌝ }
-    ensures { λ r. ⌜ r ≤ at + longestNumber + 1 ⌝ }
-{
-    let ordinal = signed::ordinal(time);
-    if ordinal < ZERO {
-        let place = put_bytes(out, at, b"-");
-        return put_number(out, place, ZERO - ordinal, LINE_END);
-    }
-    put_number(out, at, ordinal - ZERO, LINE_END)
-}
-
-// A number and one byte after it.
-fn put_number(out: &mut [u8], at: usize, number: u64, after: u8) -> usize
-    requires { ⌜ at + digitCount number < length (now out) ⌝ }
-    ensures { λ r. ⌜ Written (decimalOf number ++ (after ∷ [])) r at (now (out .entry)) (now (out .exit)) ⌝ }
-    ensures { λ r. ⌜ r ≡ at + digitCount number + 1 ⌝ }
-    ensures { λ r. ⌜ r ≤ at + longestNumber + 1 ⌝ }
-{
-    let width = digit_count(number);
-    let end = at + width;
-    write_digits(number, width, end, out);
-    out[end] = after;
-    end + 1
-}
-
-fn put_bytes(out: &mut [u8], at: usize, text: &[u8]) -> usize
-    requires { ⌜ at + length (now text) ≤ length (now out) ⌝ }
-    ensures { λ r. ⌜ Written (now (text .entry)) r at (now (out .entry)) (now (out .exit)) ⌝ }
-{
-    let mut i = 0;
-    while i < text.len() {
-        out[at + i] = text[i];
-        i += 1;
-    }
-    at + i
 }

@@ -2,15 +2,17 @@ use Prim.Native.Nat.{_+_, _-_, _≤_, min}
 use mathlib.Core.Path.{_≡_}
 use lib.ListN.{length, take}
 use borrow.Author.Needs.{needs}
-use Rattle.stamp_lines.specs.Pieces.{lineBuffer, Answered}
-use Rattle.stamp_lines.proofs.Lines.{answered-none, next-left, next-answers}
+use Rattle.line_output.specs.Pieces.{Answered}
+use Rattle.stamp_lines.specs.Output.{answerLine}
+use Rattle.stamp_lines.specs.Pieces.{lineBuffer}
+use Rattle.line_output.proofs.Lines.{answered-none, next-left, next-answers}
 use Rattle.stamp_lines.proofs.answer_chunk.Statement.{statement}
 use Rattle.stamp_lines.proofs.answer_chunk.Tie as tie
 
 -- where anything is put the loop has gone on
 abbrev Inv-loop : tie.InvT-loop
 Inv-loop chunk at line₀ kept out₀ last i₀ held₀ put₀ line out i held put =
-    Answered chunk at i (take kept line₀) held line put out₀ out × (min put 1 + at ≤ i) × (length line ≡ lineBuffer) × (length out ≡ length out₀)
+    Answered answerLine lineBuffer chunk at i (take kept line₀) held line put out₀ out × (min put 1 + at ≤ i) × (length line ≡ lineBuffer) × (length out ≡ length out₀)
 
 abbrev μ-loop : tie.MeasureT-loop
 μ-loop chunk at line₀ kept out₀ last i₀ held₀ put₀ line out i held put = length chunk - i
@@ -23,7 +25,7 @@ returns c = (search needs, search needs)
 
 loop-again : tie.Need-loop-again Inv-loop μ-loop
 loop-again c = (
-  record { within = search needs; kept = search needs; room = search needs; left = search (next-left, needs); answers = search (next-answers, needs) },
+  record { within = search needs; kept = search needs; room-left = search needs; left = search (next-left, needs); answers = search (next-answers, needs) },
   search needs,
   search needs,
   search needs,

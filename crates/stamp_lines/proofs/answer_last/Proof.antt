@@ -2,7 +2,8 @@ use mathlib.Core.Path.{sym}
 use lib.Seq.{length-take-le}
 use native.Mathlib.Omega.{arith}
 use borrow.Author.Needs.{needs}
-use Rattle.stamp_lines.proofs.Lines.{last-written, last-none}
+use Rattle.line_output.proofs.Lines.{last-none}
+use Rattle.stamp_lines.proofs.Lines.{last-written}
 use Rattle.stamp_lines.proofs.answer_last.Statement.{statement}
 use Rattle.stamp_lines.proofs.answer_last.Tie as tie
 

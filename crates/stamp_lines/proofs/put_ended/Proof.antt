@@ -2,7 +2,8 @@ use mathlib.Core.Path.{sym}
 use lib.Seq.{length-take-le}
 use native.Mathlib.Omega.{arith}
 use borrow.Author.Needs.{needs}
-use Rattle.stamp_lines.proofs.Lines.{ended-written, open-written}
+use Rattle.line_output.proofs.Lines.{open-written}
+use Rattle.stamp_lines.proofs.Lines.{ended-written}
 use Rattle.stamp_lines.proofs.put_ended.Statement.{statement}
 use Rattle.stamp_lines.proofs.put_ended.Tie as tie
 

@@ -4,7 +4,7 @@ use lib.ListN.{length}
 use borrow.Author.Needs.{needs}
 use Rattle.stamp_lines.specs.Output.{longestAnswer}
 use Rattle.stamp_lines.specs.Pieces.{lineBuffer}
-use Rattle.stamp_lines.proofs.Lines.{zeros-length}
+use Rattle.line_output.proofs.Lines.{zeros-length}
 use Rattle.stamp_lines.proofs.run.Statement.{statement}
 use Rattle.stamp_lines.proofs.run.Tie as tie
 

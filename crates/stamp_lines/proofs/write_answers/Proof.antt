@@ -7,7 +7,7 @@ use borrow.Author.Needs.{needs}
 use Rattle.lines.specs.Steps.{lineLeft}
 use Rattle.lines.proofs.Turn.{left-done}
 use Rattle.stamp_lines.specs.Pieces.{lineBuffer}
-use Rattle.stamp_lines.proofs.Lines.{rest-left}
+use Rattle.line_output.proofs.Lines.{rest-left}
 use Rattle.stamp_lines.proofs.write_answers.Statement.{statement}
 use Rattle.stamp_lines.proofs.write_answers.Tie as tie
 

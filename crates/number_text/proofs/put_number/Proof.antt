@@ -1,7 +1,7 @@
 use borrow.Author.Needs.{needs}
-use Rattle.stamp_lines.proofs.Bytes.{number-fits, number-written}
-use Rattle.stamp_lines.proofs.put.put_number.Statement.{statement}
-use Rattle.stamp_lines.proofs.put.put_number.Tie as tie
+use Rattle.number_text.proofs.Bytes.{number-fits, number-written}
+use Rattle.number_text.proofs.put_number.Statement.{statement}
+use Rattle.number_text.proofs.put_number.Tie as tie
 
 returns : tie.Need-returns
 returns c = (search (number-written, needs), (search needs, search needs))

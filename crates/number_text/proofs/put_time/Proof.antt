@@ -1,7 +1,7 @@
 use borrow.Author.Needs.{needs}
-use Rattle.stamp_lines.proofs.Bytes.{minus-room, minus-short, minus-written, plus-room, plus-written}
-use Rattle.stamp_lines.proofs.put.put_time.Statement.{statement}
-use Rattle.stamp_lines.proofs.put.put_time.Tie as tie
+use Rattle.number_text.proofs.Bytes.{minus-room, minus-short, minus-written, plus-room, plus-written}
+use Rattle.number_text.proofs.put_time.Statement.{statement}
+use Rattle.number_text.proofs.put_time.Tie as tie
 
 returns : tie.Need-returns
 returns c = (search (minus-written, needs), search (minus-short, needs))

@@ -3,9 +3,9 @@ use mathlib.Core.Path.{_≡_}
 use lib.ListN.{length, take}
 use borrow.Author.Needs.{needs}
 use Rattle.decimal.specs.Writing.{Written}
-use Rattle.stamp_lines.proofs.Bytes.{text-begins, text-next, text-done}
-use Rattle.stamp_lines.proofs.put.put_bytes.Statement.{statement}
-use Rattle.stamp_lines.proofs.put.put_bytes.Tie as tie
+use Rattle.number_text.proofs.Bytes.{text-begins, text-next, text-done}
+use Rattle.number_text.proofs.put_bytes.Statement.{statement}
+use Rattle.number_text.proofs.put_bytes.Tie as tie
 
 abbrev Inv-loop : tie.InvT-loop
 Inv-loop out₀ at text i₀ out i = (i ≤ length text) × (length out ≡ length out₀) × Written (take i text) (at + i) at out₀ out

@@ -1,0 +1,2 @@
+-- The bytes that the code puts.
+pub mod Bytes

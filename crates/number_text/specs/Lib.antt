@@ -1,0 +1,2 @@
+-- Numbers and times as text.
+pub mod Numbers
