@@ -19,11 +19,13 @@ use Rattle.rules.specs.Stamp.{readStamp}
 use Rattle.rules.specs.Print.{fitting, stampPrint, printStamp, lengthPrinted, bufferAfter}
 use Rattle.rules.specs.Accepted.{acceptedStamps, accepted}
 use Rattle.rules.specs.Time.{timeOf, countAt}
-use Rattle.versions.specs.Versions.{Table, Accepted, lastIn, Hypothesis, Says, Agree, olderRefusesStamp, olderRefusesCount, olderRefusesTime}
+use Rattle.versions.specs.Versions.{Table, Accepted, lastIn, Hypothesis, Agree, olderRefusesStamp, olderRefusesCount, olderRefusesTime}
 use Rattle.versions.specs.Versions.{readBy, printBy, timeBy, countBy, PrintedAnswer, shown, printed, Exception, Apart, olderPrint, newerPrint, NeverMisleads}
+use Rattle.versions.specs.Seam.{SaysAtSeam, NeverMisleadsAtSeam}
 use Rattle.versions.proofs.Agreement.{agree-same, agree-refused, agree-then}
 use Rattle.versions.proofs.Layouts.{OneLayout, unit-same}
 use Rattle.versions.proofs.Partitions.{KeptPartitions, total-up}
+use Rattle.versions.proofs.Seam.{says-at-seam}
 use Rattle.versions.proofs.Kept.{one-layout, kept-partitions, kept-segments, unit}
 use Rattle.versions.proofs.CountToTime.{time-agrees}
 use Rattle.versions.proofs.TimeToCount.{count-agrees}
@@ -54,7 +56,7 @@ unfolding shown only-print andThen lengthPrinted bufferAfter
 shown-print (answer s) b = ap (λ f. answer (record { returned = length s; bytes = f })) (take-append-seam s (drop (length s) b))
 shown-print (refused k) b = refl
 
-module _ (older newer : Table) (was : Accepted older) (is : Accepted newer) (says : (h : Hypothesis) → Says older newer h) where
+module _ (older newer : Table) (was : Accepted older) (is : Accepted newer) (says : (h : Hypothesis) → SaysAtSeam older newer h) where
   one : OneLayout (older .layout) (newer .layout)
   one = one-layout older newer was is says
 
@@ -115,8 +117,8 @@ module _ (older newer : Table) (was : Accepted older) (is : Accepted newer) (say
     apart : Apart older newer e
     apart = record { older-prints = older-prints; newer-prints = newer-prints; differ = numbers-differ _ _ _ }
 
-pub demand-3 : NeverMisleads
-demand-3 older newer was is says =
+pub at-seam : NeverMisleadsAtSeam
+at-seam older newer was is says =
     record {
       reading = reads older newer was is says;
       printing = prints-agree older newer was is says;
@@ -124,3 +126,6 @@ demand-3 older newer was is says =
       time-of = times-agree older newer was is says;
       count-at = counts-agree older newer was is says;
     }
+
+pub demand-3 : NeverMisleads
+demand-3 older newer was is says = at-seam older newer was is (says-at-seam older newer says)

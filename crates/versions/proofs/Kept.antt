@@ -8,20 +8,20 @@ use lib.IntN.{pos}
 use lib.ListN.{length, take, length-take}
 use lib.Seq.{getD-take}
 use borrow.Author.Tests.{ltb-true, lt-ltb}
-use Rattle.base.proofs.Scans.{some-none}
 use Rattle.rules.specs.Facts.{LayoutFacts, PartitionsFacts, SegmentsFacts}
 use Rattle.rules.specs.Partitions.{partitionsIn, endOf, totalOf}
 use Rattle.rules.specs.Layout.{productOf, unitOf}
-use Rattle.rules.specs.Segments.{segmentsIn, rowOf, overtakes, stepsBackAt, stepsBack}
+use Rattle.rules.specs.Segments.{segmentsIn, rowOf, overtakes, stepsBackAt}
 use Rattle.rules.proofs.Accepted.{layout-facts, partitions-facts, segments-facts}
-use Rattle.versions.specs.Versions.{Table, Accepted, lastIn, Hypothesis, Says}
+use Rattle.versions.specs.Versions.{Table, Accepted, lastIn, Hypothesis}
 use Rattle.versions.specs.Versions.{same-n, same-moduli, same-offsets, same-delimiter, kept-starts, kept-ends, last-end, kept-counts, kept-times, kept-rates, further-counts, no-step-back}
+use Rattle.versions.specs.Seam.{seamOf, SaysAtSeam}
 use Rattle.versions.proofs.Lists.{begins-longer, begins-at, all-after}
 use Rattle.versions.proofs.Layouts.{OneLayout, unit-positive}
 use Rattle.versions.proofs.Partitions.{KeptPartitions}
 use Rattle.versions.proofs.Segments.{KeptSegments}
 
-module _ (older newer : Table) (was : Accepted older) (is : Accepted newer) (says : (h : Hypothesis) → Says older newer h) where
+module _ (older newer : Table) (was : Accepted older) (is : Accepted newer) (says : (h : Hypothesis) → SaysAtSeam older newer h) where
   new-layout : LayoutFacts (newer .layout)
   new-layout = layout-facts (newer .layout) (is .layout)
 
@@ -69,11 +69,12 @@ module _ (older newer : Table) (was : Accepted older) (is : Accepted newer) (say
   further : (i : ℕ) → segmentsIn (older .segments) ≤ i → i < segmentsIn (newer .segments) → totalOf (older .partitions) < rowOf (newer .segments) i .count
   further i b c = let above = all-after _ (newer .segments .counts) _ i (says further-counts) b c in omega (arith, ltb-true)
 
-  forward : (i : ℕ) → i + 1 < segmentsIn (newer .segments) → overtakes (unitOf (newer .layout)) (rowOf (newer .segments) i) (rowOf (newer .segments) (i + 1)) ≡ false
-  unfolding stepsBack stepsBackAt
-  forward i b =
-      rw (lt-ltb (i + 1) (segmentsIn (newer .segments)) b)
-      at (some-none (stepsBackAt (unitOf (newer .layout)) (newer .segments)) (segmentsIn (newer .segments)) i (says no-step-back) (omega arith))
+  forward : (i : ℕ) → i + 1 ≡ segmentsIn (older .segments) → i + 1 < segmentsIn (newer .segments)
+      → overtakes (unitOf (newer .layout)) (rowOf (newer .segments) i) (rowOf (newer .segments) (i + 1)) ≡ false
+  unfolding stepsBackAt
+  forward i e b =
+      let k : seamOf older ≡ i = omega arith in
+      rw (k, lt-ltb (i + 1) (segmentsIn (newer .segments)) b) at (says no-step-back)
 
   row-same : (i : ℕ) → i < segmentsIn (older .segments) → rowOf (newer .segments) i ≡ rowOf (older .segments) i
   row-same i b =

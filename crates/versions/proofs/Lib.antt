@@ -2,7 +2,7 @@
 --     Agreement, Lists, Signed                    laws that know nothing of tables
 --     Layouts, Partitions, Segments               what one layout, kept partitions and kept segments give, row by row
 --     CountToTime, TimeToCount, Reading, Printing, Numbers     the four calls after their checks
---     Kept, Demand3                               from the hypotheses to the rows, and the theorem
+--     Seam, Kept, Demand3                         from the hypotheses to the rows, and the theorem
 --     Places                                      which refusals are alike, and which have no place
 --     Meets, WrittenOut, Needed, Witness           tables that are written out: nothing asked is idle, nor is the theorem empty
 pub mod Agreement
@@ -16,6 +16,7 @@ pub mod TimeToCount
 pub mod Reading
 pub mod Printing
 pub mod Numbers
+pub mod Seam
 pub mod Kept
 pub mod Demand3
 pub mod Places

@@ -13,9 +13,10 @@ use Rattle.rules.specs.Answer.{Answer, answer, refused}
 use Rattle.rules.specs.Partitions.{partitionsIn, totalOf}
 use Rattle.versions.specs.Versions.{Table, Hypothesis, Accepted, Says, Agree, Exception, Demand3}
 use Rattle.versions.specs.Versions.{same-n, same-moduli, same-offsets, same-delimiter, kept-starts, kept-ends, last-end, kept-counts, kept-times, kept-rates, further-counts, no-step-back}
-use Rattle.versions.specs.Needed.{TableQuestion, stamp, print, time, count, TableReply, read, print-out, timed, counted, ask, Row, pair, Needed}
+use Rattle.versions.specs.Seam.{SaysAtSeam}
+use Rattle.versions.specs.Needed.{TableQuestion, stamp, print, time, count, TableReply, read, print-out, timed, counted, ask, Row, pair, Needed, SeamNeeded}
 use Rattle.versions.proofs.WrittenOut.{written-out}
-use Rattle.versions.proofs.Demand3.{demand-3}
+use Rattle.versions.proofs.Demand3.{demand-3, at-seam}
 use Rattle.versions.proofs.Meets.{hypotheses, index, at-index, meets, meets-says, passes, passes-accepted, each, each-at, all-of-at}
 
 -- a number by which two replies are told apart
@@ -157,3 +158,24 @@ module _ (h : Hypothesis) where
         newer-replies = computed h .2;
         fails = fails;
       }
+
+pub seam-needed : SeamNeeded
+unfolding isSame index
+seam-needed s = fails no-step-back (at-seam (older no-step-back) (newer no-step-back) (accepted-older no-step-back) (accepted-newer no-step-back) all)
+  where
+    other : (k : Hypothesis) → isSame k no-step-back ≡ false → Says (older no-step-back) (newer no-step-back) k
+    other k f = others no-step-back k (λ e. not-both (is-same k no-step-back e) f)
+
+    all : (k : Hypothesis) → SaysAtSeam (older no-step-back) (newer no-step-back) k
+    all same-n = other same-n refl
+    all same-moduli = other same-moduli refl
+    all same-offsets = other same-offsets refl
+    all same-delimiter = other same-delimiter refl
+    all kept-starts = other kept-starts refl
+    all kept-ends = other kept-ends refl
+    all last-end = other last-end refl
+    all kept-counts = other kept-counts refl
+    all kept-times = other kept-times refl
+    all kept-rates = other kept-rates refl
+    all further-counts = other further-counts refl
+    all no-step-back = s

@@ -19,9 +19,11 @@ use Rattle.roundtrip.specs.RoundTrip.{TenSlots}
 use Rattle.roundtrip.proofs.Digits.{digits-grow}
 use Rattle.print_order.specs.Order.{stampLength}
 use Rattle.print_order.proofs.Stamps.{stamps-one-length}
-use Rattle.versions.specs.Versions.{Table, Accepted, Hypothesis, Says, olderRefusesCount, PrintedAnswer, shown, printed}
+use Rattle.versions.specs.Versions.{Table, Accepted, Hypothesis, olderRefusesCount, PrintedAnswer, shown, printed}
+use Rattle.versions.specs.Seam.{SaysAtSeam}
 use Rattle.versions.specs.Needed.{RefusedEverywhere}
 use Rattle.versions.proofs.Partitions.{total-up}
+use Rattle.versions.proofs.Seam.{says-at-seam}
 use Rattle.versions.proofs.Kept.{one-layout, kept-partitions}
 use Rattle.versions.proofs.Layouts.{print-same}
 use Rattle.versions.proofs.Printing.{partition-up}
@@ -37,7 +39,7 @@ module _ (s b : List ℕ) where
   unfolding shown fitting unless andThen lengthPrinted bufferAfter
   refused-short k h = by-test (leb (length s) (length b)) (λ t. absurd (not-answer (sym (rw t at h)))) (λ f. leb-false _ _ f)
 
-module _ (older newer : Table) (was : Accepted older) (is : Accepted newer) (says : (h : Hypothesis) → Says older newer h) (slots : TenSlots (older .layout)) (e : ℕ) where
+module _ (older newer : Table) (was : Accepted older) (is : Accepted newer) (says : (h : Hypothesis) → SaysAtSeam older newer h) (slots : TenSlots (older .layout)) (e : ℕ) where
   stamp-layout : stampPrint (newer .layout) (newer .partitions) e ≡ stampPrint (older .layout) (newer .partitions) e
   unfolding stampPrint
   stamp-layout = rw (print-same (older .layout) (newer .layout) (one-layout older newer was is says))
@@ -78,6 +80,7 @@ module _ (older newer : Table) (was : Accepted older) (is : Accepted newer) (say
 
 pub refused-everywhere : RefusedEverywhere
 refused-everywhere older newer was is says slots e b c same a k gives refuses =
+    let seam = says-at-seam older newer says in
     by-test (leb e (totalOf (older .partitions)))
-    (λ t. absurd (within older newer was is says slots e b c same a k gives refuses (leb-true _ _ t)))
-    (λ f. beyond older newer was is says slots e b k refuses (leb-false _ _ f))
+    (λ t. absurd (within older newer was is seam slots e b c same a k gives refuses (leb-true _ _ t)))
+    (λ f. beyond older newer was is seam slots e b k refuses (leb-false _ _ f))

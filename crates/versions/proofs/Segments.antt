@@ -1,4 +1,4 @@
--- The newer keeps the old segments, and nowhere steps back: row by row.
+-- The newer keeps the old segments, and does not step back at the seam: row by row.
 use Prim.Native.Nat.{ℕ, _+_, _≤_, _<_}
 use mathlib.Core.Path.{_≡_, ap}
 use mathlib.Core.Bool.{true, false}
@@ -16,7 +16,7 @@ pub record KeptSegments (unit total : ℕ) (g h : Segments) : Type 0 where
   pub further : (i : ℕ) → segmentsIn g ≤ i → i < segmentsIn h → total < rowOf h i .count
   pub grow : (i : ℕ) → i + 1 < segmentsIn h → ltZ (rowOf h i .time) (rowOf h (i + 1) .time) ≡ true
   pub positive : (i : ℕ) → i < segmentsIn h → 1 ≤ rowOf h i .rate
-  pub forward : (i : ℕ) → i + 1 < segmentsIn h → overtakes unit (rowOf h i) (rowOf h (i + 1)) ≡ false
+  pub forward : (i : ℕ) → i + 1 ≡ segmentsIn g → i + 1 < segmentsIn h → overtakes unit (rowOf h i) (rowOf h (i + 1)) ≡ false
 
 module _ (unit total : ℕ) (g h : Segments) (kept : KeptSegments unit total g h) (i : ℕ) (b : i < segmentsIn g) where
   pub count-same : rowOf h i .count ≡ rowOf g i .count

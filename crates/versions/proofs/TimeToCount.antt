@@ -1,4 +1,4 @@
--- The count at a time: while the older's answer is at most its total, no further segment has begun, since the newer nowhere steps back.
+-- The count at a time: while the older's answer is at most its total, no further segment has begun, since the newer does not step back at the seam.
 use Prim.Native.Nat.{ℕ, zero, suc, _+_, _-_, _*_, _≤_, _<_}
 use native.Mathlib.Omega.{arith}
 use native.Mathlib.Nat.{mul-comm, add-zero}
@@ -77,7 +77,7 @@ module _ (unit total grown : ℕ) (pu : 1 ≤ unit) (up : total ≤ grown) (g h 
   next-not-begun : (i : ℕ) → i + 1 ≡ segmentsIn g → i + 1 < segmentsIn h → reached i ≤ total → begun h t (i + 1) ≡ false
   next-not-begun i e b c =
       by-test (begun h t (i + 1))
-      (λ y. let r = line-reaches unit (rowOf h i) (rowOf h (i + 1)) t pu (kept .positive i (omega arith)) (kept .forward i b) y in
+      (λ y. let r = line-reaches unit (rowOf h i) (rowOf h (i + 1)) t pu (kept .positive i (omega arith)) (kept .forward i e b) y in
       absurd (omega (arith, reached-same i (omega arith), kept .further (i + 1) (omega arith) b)))
       (λ f. f)
 

@@ -1,5 +1,5 @@
 -- Nothing that is asked of the two tables can be left out: for each hypothesis two small accepted tables that break it alone,
--- and a question whose two replies break the claim. The exception too can't be left out, nor any of the numbers with which the older refuses.
+-- and a question whose two replies break the claim. The exception too can't be left out, nor the seam, nor any of the numbers with which the older refuses.
 use Prim.Native.Nat.{ℕ}
 use Prim.Native.String.{String}
 use mathlib.Core.Path.{_≡_}
@@ -19,6 +19,7 @@ use Rattle.rules.specs.Segments.{Segments, segments}
 use Rattle.rules.specs.Examples.{bytes, layoutA, partitionsA, segmentsA}
 use Rattle.roundtrip.specs.RoundTrip.{TenSlots}
 use Rattle.versions.specs.Versions.{Table, Accepted, Hypothesis, Says, readBy, PrintedAnswer, printed, timeBy, countBy, Agree, olderRefusesStamp, olderRefusesCount, olderRefusesTime, Exception, Demand3}
+use Rattle.versions.specs.Seam.{SaysAtSeam}
 use Rattle.versions.specs.Versions.{same-n, same-moduli, same-offsets, same-delimiter, kept-starts, kept-ends, last-end, kept-counts, kept-times, kept-rates, further-counts, no-step-back}
 
 -- a clock of n fields: the moduli of the first two, the offset of the first, the delimiter
@@ -126,6 +127,28 @@ pub record Needed (h : Hypothesis) (r : Row) : Type 0 where
   pub older-replies : ask (r .older) (r .asked) ≡ r .older-says
   pub newer-replies : ask (r .newer) (r .asked) ≡ r .newer-says
   pub fails : Demand3 (r .older) (r .newer) → ⊥
+
+-- The seam can't be left out: the two tables of `pair no-step-back` meet every other hypothesis, and break the claim.
+abbrev pub SeamNeeded : Type 0
+SeamNeeded = SaysAtSeam (pair no-step-back .older) (pair no-step-back .newer) no-step-back → ⊥
+
+-- Two tables whose first row steps back, where the third segment is added: named by their totals.
+abbrev pub backTwo : Table
+backTwo = table (clock 1 3 1 0 1) (partitions (0 ∷ 0 ∷ []) (1 ∷ 1 ∷ [])) (segments (0 ∷ 2 ∷ []) (pos 0 ∷ pos 1 ∷ []) (1_000 ∷ 1_000 ∷ []))
+
+abbrev pub backThree : Table
+backThree =
+    table
+    (clock 1 3 1 0 1)
+    (partitions (0 ∷ 0 ∷ 0 ∷ []) (1 ∷ 1 ∷ 1 ∷ []))
+    (segments (0 ∷ 2 ∷ 3 ∷ []) (pos 0 ∷ pos 1 ∷ pos 2 ∷ []) (1_000 ∷ 1_000 ∷ 1_000 ∷ []))
+
+-- To ask the seam alone is to ask less: these two step back, and meet all that is asked with the seam.
+pub record SeamAsksLess : Type 0 where
+  pub accepted-older : Accepted backTwo
+  pub accepted-newer : Accepted backThree
+  pub says : (h : Hypothesis) → SaysAtSeam backTwo backThree h
+  pub steps-back : Says backTwo backThree no-step-back → ⊥
 
 -- For the exception, named by their totals: nine partitions 0..1, and the newer adds a tenth.
 abbrev pub nine : Table
