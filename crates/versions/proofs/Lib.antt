@@ -1,11 +1,12 @@
 -- The proof of demand 3, a file for each topic:
---     Agreement, Lists, Signed                    laws that know nothing of tables
+--     Agreement, Equal, Lists, Signed             laws that know nothing of tables
 --     Layouts, Partitions, Segments               what one layout, kept partitions and kept segments give, row by row
 --     CountToTime, TimeToCount, Reading, Printing, Numbers     the four calls after their checks
 --     Seam, Kept, Demand3                         from the hypotheses to the rows, and the theorem
 --     Places                                      which refusals are alike, and which have no place
 --     Meets, WrittenOut, Needed, Witness           tables that are written out: nothing asked is idle, nor is the theorem empty
 pub mod Agreement
+pub mod Equal
 pub mod Lists
 pub mod Signed
 pub mod Layouts

@@ -1,52 +1,25 @@
 -- Each hypothesis as a test that computes, for tables that are written out.
 use Prim.Native.Nat.{ℕ, zero, suc}
-use mathlib.Core.Path.{_≡_, refl, ap}
-use mathlib.Core.Bool.{Bool, true, false, not, _&&_}
+use mathlib.Core.Path.{_≡_, refl}
+use mathlib.Core.Bool.{Bool, true, not}
 use mathlib.Core.List.{List, [], _∷_, map}
 use lib.Dec.{eqb, leb, ltb}
-use lib.IntN.{ℤ, pos, negsuc}
 use lib.ListN.{length, take, drop, getD}
 use borrow.Author.Tests.{eqb-true, leb-true, not-true}
 use Rattle.base.specs.Scans.{all, allOf}
-use Rattle.base.proofs.Tests.{and-first, and-second, not-both, all-of-head, all-of-tail}
+use Rattle.base.proofs.Tests.{all-of-head, all-of-tail}
 use Rattle.rules.specs.Layout.{moduliOf, offsetsOf, productOf, unitOf, layoutOk}
 use Rattle.rules.specs.Partitions.{endOf, totalOf, partitionsOk}
 use Rattle.rules.specs.Segments.{segmentsIn, stepsBack, segmentsOk}
 use Rattle.versions.specs.Versions.{Table, Accepted, lastIn, Hypothesis, Says, Demand3}
 use Rattle.versions.specs.Versions.{same-n, same-moduli, same-offsets, same-delimiter, kept-starts, kept-ends, last-end, kept-counts, kept-times, kept-rates, further-counts, no-step-back}
+use Rattle.versions.specs.Equal.{eqZ, same}
+use Rattle.versions.proofs.Equal.{eqZ-true, same-true}
 use Rattle.versions.proofs.Demand3.{demand-3}
 
-unfoldable pub eqZ : ℤ → ℤ → Bool
-eqZ (pos a) (pos b) = eqb a b
-eqZ (pos a) (negsuc b) = false
-eqZ (negsuc a) (pos b) = false
-eqZ (negsuc a) (negsuc b) = eqb a b
-
-eqZ-true : (a b : ℤ) → eqZ a b ≡ true → a ≡ b
-unfolding eqZ
-eqZ-true (pos a) (pos b) h = ap pos (eqb-true a b h)
-eqZ-true (pos a) (negsuc b) h = absurd (not-both h refl)
-eqZ-true (negsuc a) (pos b) h = absurd (not-both h refl)
-eqZ-true (negsuc a) (negsuc b) h = ap negsuc (eqb-true a b h)
-
--- two lists are equal, by a test of their elements
-module _ {A : Type 0} (equal : A → A → Bool) where
-  unfoldable pub same : List A → List A → Bool
-  same [] [] = true
-  same [] (b ∷ bs) = false
-  same (a ∷ s) [] = false
-  same (a ∷ s) (b ∷ r) = equal a b && same s r
-
-  same-true : ((a b : A) → equal a b ≡ true → a ≡ b) → (s r : List A) → same s r ≡ true → s ≡ r
-  unfolding same
-  same-true sound [] [] h = refl
-  same-true sound [] (b ∷ bs) h = absurd (not-both h refl)
-  same-true sound (a ∷ s) [] h = absurd (not-both h refl)
-  same-true sound (a ∷ s) (b ∷ r) h = rw (sound a b (and-first (equal a b) _ h), same-true sound s r (and-second (equal a b) _ h))
-
-  -- the newer list begins with the older
-  abbrev pub begins : List A → List A → Bool
-  begins older newer = same (take (length older) newer) older
+-- the newer list begins with the older, by a test of their elements
+abbrev pub begins : {A : Type 0} → (A → A → Bool) → List A → List A → Bool
+begins equal older newer = same equal (take (length older) newer) older
 
 module _ (older newer : Table) where
   unfoldable pub meets : Hypothesis → Bool

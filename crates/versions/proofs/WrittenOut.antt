@@ -3,8 +3,9 @@ use Rattle.base.specs.Scans.{among}
 use Rattle.rules.specs.Computing.{computing}
 use Rattle.rules.specs.Examples.{bytes, layoutA, partitionsA, segmentsA}
 use Rattle.versions.specs.Versions.{shown}
+use Rattle.versions.specs.Equal.{eqZ, same}
 use Rattle.versions.specs.Needed.{ask, pair}
-use Rattle.versions.proofs.Meets.{eqZ, same, meets, passes, hypotheses, index, each}
+use Rattle.versions.proofs.Meets.{meets, passes, hypotheses, index, each}
 
 unfoldable pub written-out : Type 0
 unfolding computing bytes layoutA partitionsA segmentsA among shown ask pair eqZ same meets passes hypotheses index each
