@@ -6,7 +6,7 @@ use lib.IntN.{ℤ, pos, negsuc}
 use lib.ListN.{length, take, set, getD}
 use lib.Seq.{take-all, take-suc}
 use mir.Syntax.{w64}
-use mir.Val.{Fits, SFits, toZ, ofZ}
+use mir.Val.{SFits, toZ, ofZ}
 use mir.Facts.{toZ-ofZ}
 use native.Mathlib.Nat.{add-assoc, add-zero}
 use native.Mathlib.Numerals.{add-one}
@@ -15,7 +15,7 @@ use Rattle.base.specs.Signed.{ordinal}
 use Rattle.rules.specs.Print.{digitCount, lastDigits}
 use Rattle.decimal.specs.Writing.{Room, Written}
 use Rattle.roundtrip.proofs.Digits.{digits-below, last-length}
-use Rattle.decimal.proofs.Digits.{digit-count-word, digits-room}
+use Rattle.decimal.proofs.Digits.{digits-room}
 use Rattle.decimal.proofs.LeftToRight.{nothing-written, written-same-length, written-then, byte-then}
 use Rattle.number_text.specs.Numbers.{decimalOf, timeBytes, longestNumber}
 
@@ -31,13 +31,16 @@ module _ (text : List ℕ) (at : ℕ) (entry : List ℕ) where
   pub text-done : (i : ℕ) {out : List ℕ} → Written (take i text) (at + i) at entry out → length text ≤ i → Written text (at + i) at entry out
   text-done i w h = rw (take-all i text h) at w
 
-pub number-fits : (x at w : ℕ) (b : List ℕ) → w ≡ digitCount x → at + digitCount x < length b → Room (lastDigits w x) (at + w) b
-number-fits x at w b e h = digits-room w x (at + w) b (omega arith) (omega arith)
+pub byte-put : (x at : ℕ) {entry : List ℕ} → at < length entry → Written (x ∷ []) (at + 1) at entry (set entry at x)
+byte-put x at {entry} h = byte-then x (nothing-written at entry) h
 
-pub number-written : (x after at w start : ℕ) {entry out : List ℕ} → Written (lastDigits w x) (at + w) start entry out → w ≡ digitCount x → at + digitCount x < length entry
+pub number-fits : (x at w : ℕ) (b : List ℕ) → w ≡ digitCount x → w ≤ longestNumber → at + longestNumber < length b → Room (lastDigits w x) (at + w) b
+number-fits x at w b e l h = digits-room w x (at + w) b (omega arith) (omega arith)
+
+pub number-written : (x after at w start : ℕ) {entry out : List ℕ} → Written (lastDigits w x) (at + w) start entry out → w ≡ digitCount x → w ≤ longestNumber → at + longestNumber < length entry
     → Written (decimalOf x ++ (after ∷ [])) (at + w + 1) at entry (set out (at + w) after)
 unfolding decimalOf
-number-written x after at w start {entry} {out} d e h =
+number-written x after at w start {entry} {out} d e l h =
     let from : start ≡ at = omega (arith, last-length w x, d .ends) in
     rw (← e) (byte-then after (rw from at d) (omega arith))
 
@@ -46,14 +49,11 @@ module _ (o at place : ℕ) {entry out : List ℕ} (below : o < 2 ^ 63) (w : Wri
   minus-digits : digitCount (2 ^ 63 - o) ≤ 19
   minus-digits = digits-below 19 (2 ^ 63 - o) (omega arith) (omega arith)
 
-  pub minus-room : at + longestNumber < length entry → place + digitCount (2 ^ 63 - o) < length out
-  minus-room h = omega (arith, minus-digits, w .ends, written-same-length w (omega (arith, w .ends)))
+  pub minus-room : at + longestNumber + 1 < length entry → place + longestNumber < length out
+  minus-room h = omega (arith, w .ends, written-same-length w (omega (arith, w .ends)))
 
   pub minus-short : (r : ℕ) → r ≡ place + digitCount (2 ^ 63 - o) + 1 → r ≤ at + longestNumber + 1
   minus-short r e = omega (arith, minus-digits, w .ends)
-
-pub plus-room : (o at : ℕ) (b : List ℕ) → Fits w64 o → at + longestNumber < length b → at + digitCount (o - 2 ^ 63) < length b
-plus-room o at b f h = omega (arith, digit-count-word (o - 2 ^ 63) (omega (arith, f .fits)))
 
 minus-bytes : (t : ℤ) (o : ℕ) → SFits w64 t → o ≡ ordinal (2 ^ 63) t → o < 2 ^ 63 → timeBytes t ≡ 45 ∷ decimalOf (2 ^ 63 - o)
 unfolding timeBytes ordinal
@@ -66,7 +66,7 @@ plus-bytes (pos n) o f e h = let same : o - 2 ^ 63 ≡ n = omega arith in rw sam
 plus-bytes (negsuc n) o f e h = absurd (omega (arith, f .sfits))
 
 module _ (t : ℤ) (f : SFits w64 t) (o at r after : ℕ) (entry : List ℕ) {exit : List ℕ} (e : o ≡ ordinal (2 ^ 63) (toZ w64 (ofZ w64 t))) where
-  pub minus-written : (place : ℕ) {out : List ℕ} → o < 2 ^ 63 → at + longestNumber < length entry
+  pub minus-written : (place : ℕ) {out : List ℕ} → o < 2 ^ 63 → at + longestNumber + 1 < length entry
       → Written (45 ∷ []) place at entry out → Written (decimalOf (2 ^ 63 - o) ++ (after ∷ [])) r place out exit
       → Written (timeBytes t ++ (after ∷ [])) r at entry exit
   minus-written place h l w v = rw (minus-bytes t o f (e ∙ rw (toZ-ofZ f)) h) (written-then w v (omega (arith, w .ends)))

@@ -24,9 +24,18 @@ pub fn put_bytes(out: &mut [u8], at: usize, text: &[u8]) -> usize
     at + i
 }
 
+pub fn put_byte(out: &mut [u8], at: usize, byte: u8) -> usize
+    requires { ⌜ at < length (now out) ⌝ }
+    ensures { λ r. ⌜ Written (byte ∷ []) r at (now (out .entry)) (now (out .exit)) ⌝ }
+    ensures { λ r. ⌜ r ≡ at + 1 ⌝ }
+{
+    out[at] = byte;
+    at + 1
+}
+
 // A number and one byte after it.
 pub fn put_number(out: &mut [u8], at: usize, number: u64, after: u8) -> usize
-    requires { ⌜ at + digitCount number < length (now out) ⌝ }
+    requires { ⌜ at + longestNumber < length (now out) ⌝ }
     ensures { λ r. ⌜ Written (decimalOf number ++ (after ∷ [])) r at (now (out .entry)) (now (out .exit)) ⌝ }
     ensures { λ r. ⌜ r ≡ at + digitCount number + 1 ⌝ }
     ensures { λ r. ⌜ r ≤ at + longestNumber + 1 ⌝ }
@@ -40,7 +49,7 @@ pub fn put_number(out: &mut [u8], at: usize, number: u64, after: u8) -> usize
 
 // A time and one byte after it.
 pub fn put_time(out: &mut [u8], at: usize, time: i64, after: u8) -> usize
-    requires { ⌜ at + longestNumber < length (now out) ⌝ }
+    requires { ⌜ at + longestNumber + 1 < length (now out) ⌝ }
     ensures { λ r. ⌜ Written (timeBytes time ++ (after ∷ [])) r at (now (out .entry)) (now (out .exit)) ⌝ }
     ensures { λ r. ⌜ r ≤ at + longestNumber + 1 ⌝ }
 {

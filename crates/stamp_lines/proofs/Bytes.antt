@@ -1,10 +1,10 @@
 -- The bytes of an answer, as the code puts them.
-use Prim.Native.Nat.{ℕ, _+_, _≤_, _<_}
+use Prim.Native.Nat.{ℕ, _+_, _≤_}
 use mathlib.Core.Path.{_≡_}
 use mathlib.Core.List.{List, [], _∷_, _++_, append-assoc}
 use lib.ListN.{length}
 use mir.Syntax.{w64}
-use mir.Val.{Fits, SFits, toZ, ofZ}
+use mir.Val.{SFits, toZ, ofZ}
 use mir.Facts.{toZ-ofZ}
 use native.Mathlib.Omega.{arith}
 use Rattle.rules.specs.declared.Place.the-variants as Places
@@ -14,16 +14,11 @@ use Rattle.rules.specs.declared.StampAnswer.the-variants as Of
 use Rattle.rules.specs.declared.TimedStamp.{TimedStamp}
 use Rattle.rules.specs.Answer.{answer, refused, stampAnswer}
 use Rattle.rules.specs.Examples.{bytes}
-use Rattle.rules.specs.Print.{digitCount}
 use Rattle.decimal.specs.Writing.{Written}
-use Rattle.decimal.proofs.Digits.{digit-count-word}
 use Rattle.decimal.proofs.LeftToRight.{written-same-length, written-then}
 use Rattle.lines.specs.Lines.{lineEnd}
 use Rattle.number_text.specs.Numbers.{decimalOf, timeBytes, longestNumber}
 use Rattle.stamp_lines.specs.Output.{placeBytes, refusalBytes, stampBytes, longestNumbers, longestAnswer}
-
-pub number-room : (x at : ℕ) (b : List ℕ) → Fits w64 x → at + longestAnswer ≤ length b → at + digitCount x < length b
-number-room x at b f h = omega (arith, digit-count-word x (f .fits))
 
 -- an answer
 pub timed-written : (s : TimedStamp) (mid at r : ℕ) {entry out exit : List ℕ} → SFits w64 (s .time)
@@ -34,9 +29,6 @@ unfolding stampBytes
 timed-written s mid at r f w v h k = rw append-assoc at (written-then w (rw (toZ-ofZ f) at v) (omega arith))
 
 -- a refusal's number, and its place
-pub numbers-room : (x at : ℕ) (b : List ℕ) → Fits w64 x → at + longestNumbers ≤ length b → at + digitCount x < length b
-numbers-room x at b f h = omega (arith, digit-count-word x (f .fits))
-
 module _ (k : Refusal) (at r : ℕ) {entry exit : List ℕ} where
   pub unplaced-written : k .place ≡ Places.None → Written (decimalOf (k .number) ++ (lineEnd ∷ [])) r at entry exit → Written (refusalBytes k) r at entry exit
   unfolding refusalBytes placeBytes
@@ -46,10 +38,6 @@ module _ (k : Refusal) (at r : ℕ) {entry exit : List ℕ} where
       → Written (decimalOf (k .number) ++ (32 ∷ [])) mid at entry out → Written (decimalOf i ++ (lineEnd ∷ [])) r mid out exit → Written (refusalBytes k) r at entry exit
   unfolding refusalBytes placeBytes
   placed-written i mid e h l w v = rw e (rw append-assoc at (written-then w v (omega arith)))
-
-pub place-room : (x y at mid : ℕ) {entry out : List ℕ} → Fits w64 y → at + longestNumbers ≤ length entry → mid ≤ at + longestNumber + 1
-    → Written (decimalOf x ++ (32 ∷ [])) mid at entry out → mid + digitCount y < length out
-place-room x y at mid f h l w = omega (arith, digit-count-word y (f .fits), written-same-length w (omega arith))
 
 module _ (k : Refusal) (mid at : ℕ) {entry out : List ℕ} (room : at + longestAnswer ≤ length entry) (w : Written (114 ∷ 101 ∷ 102 ∷ 117 ∷ 115 ∷ 101 ∷ 100 ∷ 32 ∷ []) mid at entry out) where
   pub refused-room : mid + longestNumbers ≤ length out

@@ -1,5 +1,5 @@
 use borrow.Author.Needs.{needs}
-use Rattle.number_text.proofs.Bytes.{minus-room, minus-short, minus-written, plus-room, plus-written}
+use Rattle.number_text.proofs.Bytes.{minus-room, minus-short, minus-written, plus-written}
 use Rattle.number_text.proofs.put_time.Statement.{statement}
 use Rattle.number_text.proofs.put_time.Tie as tie
 
@@ -20,6 +20,6 @@ put-time-spec =
     (λ c κs. search (minus-room, needs))
     (λ c. search needs)
     returns
-    (λ c κs. search (plus-room, needs))
+    (λ c κs. search needs)
     (λ c. search needs)
     returns-2)

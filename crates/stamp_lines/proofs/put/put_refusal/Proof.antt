@@ -1,5 +1,5 @@
 use borrow.Author.Needs.{needs}
-use Rattle.stamp_lines.proofs.Bytes.{numbers-room, place-room, unplaced-written, placed-written}
+use Rattle.stamp_lines.proofs.Bytes.{unplaced-written, placed-written}
 use Rattle.stamp_lines.proofs.put.put_refusal.Statement.{statement}
 use Rattle.stamp_lines.proofs.put.put_refusal.Tie as tie
 
@@ -14,10 +14,10 @@ put-refusal-spec =
     tie.close
     (tie.spec
     (λ c. search needs)
-    (λ c κs. search (numbers-room, needs))
+    (λ c κs. search needs)
     (λ c. search needs)
-    (λ c κs. search (numbers-room, needs))
-    (λ c κs. search (place-room, needs))
+    (λ c κs. search needs)
+    (λ c κs. search needs)
     (λ c. search needs)
     returns
     (λ c. search needs)
