@@ -1,7 +1,7 @@
 -- Signed numbers from -b to b - 1 as unsigned ones: order, sum and difference are those of their ordinals. Then order alone.
 use Prim.Native.Nat.{ℕ, zero, suc, _+_, _-_, _≤_, _<_}
 use mathlib.Core.Path.{_≡_, refl, sym, _∙_}
-use mathlib.Core.Bool.{true, not, true≢false}
+use mathlib.Core.Bool.{true, false, not, true≢false}
 use lib.IntN.{ℤ, pos, negsuc}
 use lib.Dec.{leb, ltb}
 use lib.Signed.{mag, leZ, ltZ}
@@ -9,7 +9,7 @@ use borrow.Author.Tests.{le-leb, lt-leb, lt-ltb, le-ltb, leb-true, leb-false, lt
 use native.Mathlib.Nat.{le-of-lt}
 use native.Mathlib.Omega.{arith}
 use Rattle.base.specs.Signed.{later, elapsed, ordinal}
-use Rattle.base.proofs.Tests.{by-test, same-test}
+use Rattle.base.proofs.Tests.{by-test, not-both, same-test}
 
 module _ (b : ℕ) where
   pub ordinal-le : (x y : ℤ) → mag x < b → mag y < b → leZ x y ≡ leb (ordinal b x) (ordinal b y)
@@ -81,6 +81,16 @@ before-at-most (pos m) (pos n) h = le-leb m n (le-of-lt (ltb-true m n h))
 before-at-most (pos m) (negsuc n) h = h
 before-at-most (negsuc m) (pos n) h = h
 before-at-most (negsuc m) (negsuc n) h = le-leb n m (le-of-lt (ltb-true n m h))
+
+-- what is later than a time after t is after t
+pub after-later : (a b t : ℤ) → ltZ a b ≡ true → leZ a t ≡ false → leZ b t ≡ false
+after-later (pos a) (pos b) (pos t) h k = lt-leb b t (omega (arith, ltb-true a b h, leb-false a t k))
+after-later (pos a) (pos b) (negsuc t) h k = refl
+after-later (pos a) (negsuc b) t h k = absurd (not-both h refl)
+after-later (negsuc a) (pos b) (pos t) h k = absurd (not-both refl k)
+after-later (negsuc a) (pos b) (negsuc t) h k = refl
+after-later (negsuc a) (negsuc b) (pos t) h k = absurd (not-both refl k)
+after-later (negsuc a) (negsuc b) (negsuc t) h k = lt-leb t b (omega (arith, ltb-true b a h, leb-false t a k))
 
 -- d after t is still at or before z
 pub later-within : (t z : ℤ) (d : ℕ) → leZ t z ≡ true → leZ (later t d) z ≡ leb d (elapsed t z)

@@ -41,6 +41,11 @@ unfoldable pub lastBelow : (ℕ → Bool) → ℕ → Option ℕ
 lastBelow p zero = none
 lastBelow p (suc n) = cond (p n) (some n) (lastBelow p n)
 
+-- the greatest number below n
+unfoldable pub greatestBelow : ℕ → Option ℕ
+greatestBelow zero = none
+greatestBelow (suc n) = some n
+
 -- f 0 + .. + f (n - 1)
 unfoldable pub sumBelow : (ℕ → ℕ) → ℕ → ℕ
 sumBelow f zero = 0

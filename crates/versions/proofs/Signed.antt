@@ -3,7 +3,7 @@ use Prim.Native.Nat.{ℕ, zero, suc, _+_, _-_, _≤_}
 use native.Mathlib.Omega.{arith}
 use mathlib.Core.Path.{_≡_, refl}
 use mathlib.Core.Bool.{true, false}
-use borrow.Author.Tests.{ltb-true, ltb-false, leb-true, leb-false, lt-leb, le-leb, le-ltb}
+use borrow.Author.Tests.{ltb-true, ltb-false, leb-true, leb-false, le-leb, le-ltb}
 use lib.Dec.{ltb}
 use lib.IntN.{ℤ, pos, negsuc, natAbs, subℕ}
 use lib.Signed.{leZ, ltZ}
@@ -11,16 +11,6 @@ use Rattle.base.specs.Signed.{later, elapsed}
 use Rattle.base.proofs.Tests.{by-test, not-both}
 
 ruleset tests = (ltb-true, ltb-false, leb-true, leb-false)
-
--- what is later than a time after t is after t
-pub after-later : (a b t : ℤ) → ltZ a b ≡ true → leZ a t ≡ false → leZ b t ≡ false
-after-later (pos a) (pos b) (pos t) h k = lt-leb b t (omega (arith, tests))
-after-later (pos a) (pos b) (negsuc t) h k = refl
-after-later (pos a) (negsuc b) t h k = absurd (not-both h refl)
-after-later (negsuc a) (pos b) (pos t) h k = absurd (not-both refl k)
-after-later (negsuc a) (pos b) (negsuc t) h k = refl
-after-later (negsuc a) (negsuc b) (pos t) h k = absurd (not-both refl k)
-after-later (negsuc a) (negsuc b) (negsuc t) h k = lt-leb t b (omega (arith, tests))
 
 -- a time that is not after u is at or before t where u is
 pub not-later : (u v t : ℤ) → ltZ u v ≡ false → leZ u t ≡ true → leZ v t ≡ true

@@ -16,6 +16,7 @@ use Rattle.base.specs.Signed.{elapsed}
 use Rattle.base.proofs.Rounding.{at-most-up, down-at-least}
 use Rattle.base.proofs.Tests.{by-test}
 use Rattle.base.proofs.Scans.{Last, last-or, last-is, last-none}
+use Rattle.base.proofs.Signed.{after-later}
 use Rattle.rules.specs.declared.Segment.{Segment}
 use Rattle.rules.specs.Answer.{refuse, numbered, unless}
 use Rattle.rules.specs.Segments.{Segments, segmentsIn, rowOf, hasNext, lineAt, overtakes}
@@ -23,7 +24,7 @@ use Rattle.rules.specs.Time.{segmentAt, ticksSince, lineCount, stoppedAt, notBe
 use Rattle.versions.specs.Versions.{Agree, olderRefusesTime}
 use Rattle.versions.proofs.Agreement.{agree-same, agree-refused, agree-unless}
 use Rattle.versions.proofs.Lists.{last-more}
-use Rattle.versions.proofs.Signed.{after-later, not-later, later-elapsed}
+use Rattle.versions.proofs.Signed.{not-later, later-elapsed}
 use Rattle.versions.proofs.Segments.{KeptSegments, count-same, time-same}
 
 -- a line that does not overtake the next segment has reached that one's count once it has begun
