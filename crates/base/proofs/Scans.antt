@@ -6,7 +6,7 @@
 --     first-not-found, first-not-missing, first-not-is, first-not-none     `firstNot`
 --     last-found, last-is, last-none         `lastBelow`
 --     sum-next, sum-same, sum-up  `sumBelow`
-use Prim.Native.Nat.{ℕ, zero, suc, _+_, _-_, _≤_, _<_}
+use Prim.Native.Nat.{ℕ, zero, suc, _+_, _≤_, _<_}
 use mathlib.Core.Path.{_≡_, refl, sym, subst, _∙_}
 use mathlib.Core.Bool.{Bool, true, false, not, cond}
 use mathlib.Core.Option.{Option, none, some, Option·none-ne-some, Option·some-ne-none}
@@ -200,22 +200,6 @@ module _ (p : ℕ → Bool) where
   first-not-found n i e =
       let w = first-found (λ i. not (p i)) n i e in
       record { below = w .below; fails-here = not-true (p i) (w .holds); before = λ j h. not-false (p j) (w .before j h) }
-
--- one turn of a loop that looks for the last from the top
-module _ (p : ℕ → Bool) where
-  pub last-start : lastBelow p 0 ≡ none
-  unfolding lastBelow
-  last-start = refl
-
-  pub last-here : (n : ℕ) → 0 < n → p (n - 1) ≡ true → lastBelow p n ≡ some (n - 1)
-  unfolding lastBelow
-  last-here zero h t = absurd (omega arith)
-  last-here (suc n) h t = let e : suc n - 1 ≡ n = omega arith in rw (e, rw e at t)
-
-  pub last-down : (n : ℕ) → 0 < n → p (n - 1) ≡ false → lastBelow p n ≡ lastBelow p (n - 1)
-  unfolding lastBelow
-  last-down zero h f = absurd (omega arith)
-  last-down (suc n) h f = let e : suc n - 1 ≡ n = omega arith in rw (e, rw e at f)
 
 -- scans of two tests that agree below n
 pub all-same : (p q : ℕ → Bool) (n : ℕ) → ((i : ℕ) → i < n → p i ≡ q i) → allBelow p n ≡ allBelow q n

@@ -6,6 +6,7 @@ ghost use Rattle.rules.specs.Facts.{SegmentsFacts};
 ghost use Rattle.rules.specs.Time.{segmentOf, segmentAt, timeIn, countIn, timeOf, countAt};
 ghost use Rattle.tables.specs.Accept.{BasisFacts};
 ghost use Rattle.segment_search.specs.Found.{found};
+ghost use Rattle.segment_search.specs.Growing.{CountsGrow, TimesGrow};
 ghost use Rattle.conversion.specs.LastCount.{HasCount, lastCount};
 ghost use Rattle.c_rules.specs.Numbers.{numbers};
 ghost use Rattle.c_rules.specs.Numbers.{times as timesIn};
@@ -22,6 +23,7 @@ use conversion::time_of_row;
 use rules::CountAnswer;
 use rules::TimeAnswer;
 use segment_search::Found;
+use segment_search::last_of;
 use tables::Acceptance;
 
 // The time of an encoded count.
@@ -117,29 +119,37 @@ fn count_within(
 }
 
 fn row_of_count(counts: &[u8], e: u64) -> Found
+    requires { ⌜ CountsGrow (numbers (now counts)) ⌝ }
     ensures { λ r. ⌜ found r ≡ segmentOf (numbers (now (counts .entry))) e ⌝ }
 {
-    let mut left = rows(counts);
-    while 0 < left {
-        if number_at(counts, left - 1) <= e {
-            return Found::Row(left - 1);
+    let mut low = 0;
+    let mut high = rows(counts);
+    while low < high {
+        let middle = low + (high - low) / 2;
+        if e < number_at(counts, middle) {
+            high = middle;
+        } else {
+            low = middle + 1;
         }
-        left -= 1;
     }
-    Found::Nothing
+    last_of(low)
 }
 
 fn row_of_time(times: &[u8], t: i64) -> Found
+    requires { ⌜ TimesGrow (timesIn (now times)) ⌝ }
     ensures { λ r. ⌜ found r ≡ segmentAt (timesIn (now (times .entry))) t ⌝ }
 {
-    let mut left = rows(times);
-    while 0 < left {
-        if time_at(times, left - 1) <= t {
-            return Found::Row(left - 1);
+    let mut low = 0;
+    let mut high = rows(times);
+    while low < high {
+        let middle = low + (high - low) / 2;
+        if t < time_at(times, middle) {
+            high = middle;
+        } else {
+            low = middle + 1;
         }
-        left -= 1;
     }
-    Found::Nothing
+    last_of(low)
 }
 
 // The last count of row `i`: the one before the next row's, or the greatest number there is.

@@ -28,6 +28,7 @@ use Rattle.segment_line.specs.Line.{ToTime, ToTicks}
 use Rattle.segment_search.specs.declared.Found.{Found}
 use Rattle.segment_search.specs.declared.Found.the-variants as Of
 use Rattle.segment_search.specs.Found.{found}
+use Rattle.segment_search.specs.Growing.{CountsGrow, TimesGrow}
 use Rattle.conversion.specs.LastCount.{HasCount, lastCount}
 use Rattle.conversion.proofs.Rows.{count-below, next-positive, in-lists, count-row, line-to-time, time-row, line-to-ticks, ticks-small}
 
@@ -71,6 +72,13 @@ stopped-is counts i c w small =
 module _ (unit total : ℕ) (counts : List ℕ) (times : List ℤ) (rates : List ℕ) where
   abbrev g : Segments
   g = segments counts times rates
+
+  module _ (fg : SegmentsFacts unit total g) where
+    pub counts-grow : CountsGrow counts
+    counts-grow = record { grow = λ i h. fg .grow i h .counts }
+
+    pub times-grow : TimesGrow times
+    times-grow = record { grow = λ i h. fg .grow i (rw (fg .times-length) at h) .times }
 
   pub beyond-total : (e : ℕ) → total < e → refuse 12 ≡ timeIn unit total g e
   unfolding timeIn unless

@@ -1,5 +1,5 @@
 use borrow.Author.Needs.{needs}
-use Rattle.conversion.proofs.Conversions.{out-of-range, before-all, time-in-lists, has-count, row-to-ticks, row-sum-fits, count-is}
+use Rattle.conversion.proofs.Conversions.{times-grow, out-of-range, before-all, time-in-lists, has-count, row-to-ticks, row-sum-fits, count-is}
 use Rattle.byte_times.proofs.count_within.Statement.{statement}
 use Rattle.byte_times.proofs.count_within.Tie as tie
 
@@ -9,7 +9,7 @@ count-within-spec =
     (tie.spec
     (λ c κs. search needs)
     (λ c. search (out-of-range, needs))
-    (λ c κs. search needs)
+    (λ c κs. search (times-grow, needs))
     (λ c. search needs)
     (λ c κs. search (time-in-lists, needs))
     (λ c κs. search (has-count, needs))

@@ -1,17 +1,18 @@
+use Prim.Native.Nat.{_-_}
 use mir.Val.{toZ}
 use mir.Syntax.{w64}
 use borrow.Author.Needs.{needs}
 use Rattle.c_rules.specs.Numbers.{times as timesIn}
 use Rattle.c_rules.proofs.Bytes.{times-rows}
-use Rattle.segment_search.proofs.FromTheTop.{TimeLeft, time-start, time-inside, time-here, time-down, time-none}
+use Rattle.segment_search.proofs.Segments.{TimesLeft, times-start, middle-fits, after-middle-fits, time-inside, times-lower, times-upper, time-found}
 use Rattle.byte_times.proofs.row_of_time.Statement.{statement}
 use Rattle.byte_times.proofs.row_of_time.Tie as tie
 
 abbrev Inv-loop : tie.InvT-loop
-Inv-loop times t left₀ left = TimeLeft (timesIn times) (toZ w64 t) left
+Inv-loop times t low₀ high₀ low high = TimesLeft (timesIn times) (toZ w64 t) low high
 
 abbrev μ-loop : tie.MeasureT-loop
-μ-loop times t left₀ left = left
+μ-loop times t low₀ high₀ low high = high - low
 
 pub row-of-time-spec : {M : Type 1} → statement M
 row-of-time-spec =
@@ -20,12 +21,14 @@ row-of-time-spec =
     Inv-loop
     μ-loop
     (λ c κs. search needs)
-    (λ c. search (time-start, times-rows, needs))
+    (λ c. search (times-start, times-rows, needs))
     (λ c. search needs)
+    (λ c. search (middle-fits, times-rows, needs))
     (λ c κs. search (time-inside, needs))
     (λ c. search needs)
-    (λ c. search (time-here, needs))
+    (λ c. search (times-lower, needs))
+    (λ c. search (after-middle-fits, times-rows, needs))
     (λ c. search needs)
-    (λ c. search needs)
-    (λ c. search (time-down, needs))
-    (λ c. search (time-none, needs)))
+    (λ c. search (times-upper, needs))
+    (λ c κs. search needs)
+    (λ c. search (time-found, needs)))

@@ -1,5 +1,5 @@
 use borrow.Author.Needs.{needs}
-use Rattle.conversion.proofs.Conversions.{beyond-total, before-first, count-in-lists, row-to-time, time-is}
+use Rattle.conversion.proofs.Conversions.{counts-grow, beyond-total, before-first, count-in-lists, row-to-time, time-is}
 use Rattle.conversion.proofs.time_within.Statement.{statement}
 use Rattle.conversion.proofs.time_within.Tie as tie
 
@@ -8,7 +8,7 @@ time-within-spec =
     tie.close
     (tie.spec
     (λ c. search (beyond-total, needs))
-    (λ c κs. search needs)
+    (λ c κs. search (counts-grow, needs))
     (λ c. search needs)
     (λ c κs. search (count-in-lists, needs))
     (λ c κs. search (row-to-time, needs))

@@ -1,16 +1,16 @@
-use mathlib.Core.Path.{refl}
-use borrow.Author.Needs.{needs}
+use Prim.Native.Nat.{_-_}
 use mir.Val.{toZ}
 use mir.Syntax.{w64}
-use Rattle.segment_search.proofs.FromTheTop.{TimeLeft, time-start, time-here, time-down, time-none}
+use borrow.Author.Needs.{needs}
+use Rattle.segment_search.proofs.Segments.{TimesLeft, times-start, times-lower, times-upper, time-found}
 use Rattle.segment_search.proofs.row_of_time.Statement.{statement}
 use Rattle.segment_search.proofs.row_of_time.Tie as tie
 
 abbrev Inv-loop : tie.InvT-loop
-Inv-loop times t rows₀ rows = TimeLeft times (toZ w64 t) rows
+Inv-loop times t low₀ high₀ low high = TimesLeft times (toZ w64 t) low high
 
 abbrev μ-loop : tie.MeasureT-loop
-μ-loop times t rows₀ rows = rows
+μ-loop times t low₀ high₀ low high = high - low
 
 pub row-of-time-spec : {M : Type 1} → statement M
 row-of-time-spec =
@@ -18,13 +18,15 @@ row-of-time-spec =
     (tie.spec
     Inv-loop
     μ-loop
-    (λ c. search (time-start, refl, needs))
+    (λ c. search (times-start, needs))
     (λ c. search needs)
     (λ c. search needs)
     (λ c. search needs)
     (λ c. search needs)
-    (λ c. search (time-here, refl, needs))
+    (λ c. search needs)
+    (λ c. search (times-lower, needs))
     (λ c. search needs)
     (λ c. search needs)
-    (λ c. search (time-down, refl, needs))
-    (λ c. search (time-none, needs)))
+    (λ c. search (times-upper, needs))
+    (λ c κs. search needs)
+    (λ c. search (time-found, needs)))
