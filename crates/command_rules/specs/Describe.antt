@@ -2,11 +2,12 @@
 use Prim.Native.Nat.{ℕ, zero, suc, _+_}
 use mathlib.Core.Bool.{Bool, cond, _&&_}
 use mathlib.Core.List.{List, [], _∷_, _++_}
-use lib.IntN.{ℤ, pos, negsuc, _-ℤ_}
+use lib.IntN.{ℤ}
 use lib.Dec.{eqb}
 use lib.Signed.{ltZ}
 use lib.ListN.{getD}
 use Rattle.base.specs.Scans.{sumBelow}
+use Rattle.base.specs.Signed.{elapsed}
 use Rattle.rules.specs.declared.Layout.{Layout}
 use Rattle.rules.specs.Layout.{unitOf}
 use Rattle.rules.specs.Partitions.{Partitions, partitionsIn, startOf, endOf, lengthsBefore, totalOf}
@@ -15,7 +16,7 @@ use Rattle.rules.specs.Print.{delimiterByte}
 use Rattle.rules.specs.Examples.{bytes}
 use Rattle.versions.specs.Versions.{Table}
 use Rattle.number_text.specs.Numbers.{decimalOf, timeBytes}
-use Rattle.command_rules.specs.Fields.{tab, field, lastField, timeText, rateText}
+use Rattle.command_rules.specs.Fields.{tab, field, lastField, amountText, timeText, rateText}
 
 -- the lines of the rows below n
 unfoldable pub rowsText : (ℕ → List ℕ) → ℕ → List ℕ
@@ -56,15 +57,15 @@ partitionLine p i =
     (field (decimalOf (startOf p i))
     (field (decimalOf (endOf p i)) (lastField (decimalOf (lengthsBefore p i))))))
 
--- how much later the next row's time is than what this row's line reaches there, rounded up
-unfoldable pub jump : ℕ → Segments → ℕ → ℤ
-jump unit g i = rowOf g (i + 1) .time -ℤ lineAt unit (rowOf g i) (rowOf g (i + 1) .count)
+-- the time that the line of row i, rounded up, reaches where the next row begins
+unfoldable pub reached : ℕ → Segments → ℕ → ℤ
+reached unit g i = lineAt unit (rowOf g i) (rowOf g (i + 1) .count)
 
--- later: a gap; earlier: a step back; else nothing
-unfoldable pub jumpText : Bool → ℤ → List ℕ
-jumpText seconds (pos zero) = []
-jumpText seconds (pos (suc n)) = tab ∷ field (bytes "gap") (timeText seconds (pos (suc n)))
-jumpText seconds (negsuc n) = tab ∷ field (bytes "back") (timeText seconds (pos (suc n)))
+-- the next row's time is later: a gap; earlier: a step back; else nothing
+unfoldable pub jumpText : Bool → ℤ → ℤ → List ℕ
+jumpText seconds line next =
+    cond (ltZ line next) (tab ∷ field (bytes "gap") (amountText seconds (elapsed line next)))
+    (cond (ltZ next line) (tab ∷ field (bytes "back") (amountText seconds (elapsed next line))) [])
 
 -- a segment by its row, from 0
 unfoldable pub segmentLine : Bool → ℕ → Segments → ℕ → List ℕ
@@ -73,10 +74,10 @@ segmentLine seconds unit g i =
     (field (decimalOf i)
     (field (decimalOf (rowOf g i .count))
     (field (timeText seconds (rowOf g i .time))
-    (rateText seconds (rowOf g i .rate) ++ lastField (cond (hasNext (g .counts) i) (jumpText seconds (jump unit g i)) [])))))
+    (rateText seconds (rowOf g i .rate) ++ lastField (cond (hasNext (g .counts) i) (jumpText seconds (reached unit g i) (rowOf g (i + 1) .time)) [])))))
 
 unfoldable pub isGap : ℕ → Segments → ℕ → Bool
-isGap unit g i = hasNext (g .counts) i && ltZ (lineAt unit (rowOf g i) (rowOf g (i + 1) .count)) (rowOf g (i + 1) .time)
+isGap unit g i = hasNext (g .counts) i && ltZ (reached unit g i) (rowOf g (i + 1) .time)
 
 unfoldable pub headText : ℤ → ℕ → Layout → List ℕ
 headText clock system l = clockLine clock ++ (systemLine system ++ (delimiterLine (l .delimiter) ++ rowsText (fieldLine l) (l .n)))

@@ -1,14 +1,16 @@
 -- The fields of an output line: numbers, times and refusals as text.
 use Prim.Native.Nat.{ℕ, _+_, _/_, _^_}
-use mathlib.Core.Bool.{Bool, true, false}
+use mathlib.Core.Bool.{Bool, true, false, cond}
 use mathlib.Core.List.{List, [], _∷_, _++_}
 use lib.IntN.{ℤ, pos, negsuc}
+use lib.Signed.{leZ}
+use Rattle.base.specs.Signed.{elapsed}
 use Rattle.rules.specs.declared.Place.{Place}
 use Rattle.rules.specs.declared.Place.the-variants as Places
 use Rattle.rules.specs.declared.Refusal.{Refusal}
 use Rattle.rules.specs.Print.{lastDigits}
 use Rattle.lines.specs.Lines.{lineEnd}
-use Rattle.number_text.specs.Numbers.{decimalOf, timeBytes}
+use Rattle.number_text.specs.Numbers.{decimalOf}
 use Rattle.command_rules.specs.Sentences.{sentence}
 
 -- what separates two fields
@@ -27,15 +29,19 @@ lastField s = s ++ (lineEnd ∷ [])
 unfoldable pub pointed : ℕ → ℕ → List ℕ
 pointed places x = decimalOf (x / 10 ^ places) ++ (46 ∷ lastDigits places x)
 
--- nanoseconds as decimal seconds
-unfoldable pub secondsBytes : ℤ → List ℕ
-secondsBytes (pos n) = pointed 9 n
-secondsBytes (negsuc n) = 45 ∷ pointed 9 (n + 1)
+-- an amount of nanoseconds; "`--seconds` for decimal seconds"
+unfoldable pub amountText : Bool → ℕ → List ℕ
+amountText false x = decimalOf x
+amountText true x = pointed 9 x
 
--- "`--seconds` for decimal seconds"
+-- a time, with `-` in front where it is negative
 unfoldable pub timeText : Bool → ℤ → List ℕ
-timeText false t = timeBytes t
-timeText true t = secondsBytes t
+timeText seconds (pos n) = amountText seconds n
+timeText seconds (negsuc n) = 45 ∷ amountText seconds (n + 1)
+
+-- by how much b is later than a, with `-` in front where it is earlier
+unfoldable pub differenceText : Bool → ℤ → ℤ → List ℕ
+differenceText seconds a b = cond (leZ a b) (amountText seconds (elapsed a b)) (45 ∷ amountText seconds (elapsed b a))
 
 -- a rate: picoseconds, or decimal seconds
 unfoldable pub rateText : Bool → ℕ → List ℕ

@@ -2,7 +2,6 @@
 use Prim.Native.Nat.{ℕ, _+_}
 use mathlib.Core.Bool.{Bool, true, false, cond, _&&_}
 use mathlib.Core.List.{List, [], _∷_, _++_}
-use lib.IntN.{ℤ, _-ℤ_}
 use lib.Dec.{eqb}
 use Rattle.rules.specs.declared.Refusal.{Refusal}
 use Rattle.rules.specs.declared.TimedStamp.{TimedStamp}
@@ -18,7 +17,7 @@ use Rattle.versions.specs.Equal.{eqZ}
 use Rattle.number_text.specs.Numbers.{decimalOf}
 use Rattle.command_rules.specs.declared.Query.{Query}
 use Rattle.command_rules.specs.declared.Query.the-variants as Asked
-use Rattle.command_rules.specs.Fields.{field, lastField, timeText, refusalText}
+use Rattle.command_rules.specs.Fields.{field, lastField, timeText, differenceText, refusalText}
 use Rattle.command_rules.specs.Input.{withoutReturn, readCount, readTimeBy, readHex, longestHex}
 
 -- what is printed of a line, byte 10 included, and whether it is answered well
@@ -68,7 +67,7 @@ unfoldable pub bothLine : Bool → TimedStamp → TimedStamp → Bool → Line
 bothLine seconds a b true = record { text = field (bytes "same") (lastField (bothFields seconds a)); well = true }
 bothLine seconds a b false =
     record {
-      text = field (bytes "differ") (field (bothFields seconds a) (field (bothFields seconds b) (lastField (timeText seconds (b .time -ℤ a .time)))));
+      text = field (bytes "differ") (field (bothFields seconds a) (field (bothFields seconds b) (lastField (differenceText seconds (a .time) (b .time)))));
       well = false;
     }
 

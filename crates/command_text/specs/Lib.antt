@@ -1,0 +1,2 @@
+-- The most bytes of a field.
+pub mod Longest
