@@ -3,10 +3,13 @@ use Prim.Native.Nat.{ℕ, _+_}
 use mathlib.Core.Bool.{Bool, true, false, cond, _&&_}
 use mathlib.Core.List.{List, [], _∷_, _++_}
 use lib.Dec.{eqb}
+use Rattle.rules.specs.declared.Layout.{Layout}
 use Rattle.rules.specs.declared.Refusal.{Refusal}
+use Rattle.rules.specs.declared.CountAtTime.{CountAtTime}
 use Rattle.rules.specs.declared.TimedStamp.{TimedStamp}
 use Rattle.rules.specs.Answer.{Answer, answer, refused, andThen}
 use Rattle.rules.specs.Limits.{longestText}
+use Rattle.rules.specs.Partitions.{Partitions}
 use Rattle.rules.specs.Print.{printStamp}
 use Rattle.rules.specs.Time.{countAt}
 use Rattle.rules.specs.StampTime.{timeOfStamp, timeOfMessage}
@@ -37,30 +40,30 @@ stampBy t s = timeOfStamp (t .layout) (t .partitions) (t .segments) s
 unfoldable pub messageBy : Table → List ℕ → Answer TimedStamp
 messageBy t s = andThen (readHex s) (timeOfMessage (t .layout) (t .partitions) (t .segments))
 
-abbrev pub printBy : Table → ℕ → Answer (List ℕ)
-printBy t e = printStamp (t .layout) (t .partitions) e longestText
+abbrev pub printBy : Layout → Partitions → ℕ → Answer (List ℕ)
+printBy l p e = printStamp l p e longestText
 
 -- an encoded count and its time
 unfoldable pub bothFields : Bool → TimedStamp → List ℕ
 bothFields seconds s = field (decimalOf (s .count)) (timeText seconds (s .time))
 
 -- "encoded count, time, the stamp as printed"
-unfoldable pub timeFields : Bool → Table → TimedStamp → Answer (List ℕ)
-timeFields seconds t s = andThen (printBy t (s .count)) (λ p. answer (field (bothFields seconds s) p))
+unfoldable pub timeFields : Bool → Layout → Partitions → TimedStamp → Answer (List ℕ)
+timeFields seconds l p s = andThen (printBy l p (s .count)) (λ text. answer (field (bothFields seconds s) text))
 
-unfoldable pub timeLine : Bool → Table → Answer TimedStamp → Line
-timeLine seconds t a = answeredLine (andThen a (timeFields seconds t))
+unfoldable pub timeLine : Bool → Layout → Partitions → Answer TimedStamp → Line
+timeLine seconds l p a = answeredLine (andThen a (timeFields seconds l p))
 
 -- "encoded counts to stamps"
-unfoldable pub stampLine : Table → List ℕ → Line
-stampLine t s = answeredLine (andThen (readCount s) (printBy t))
+unfoldable pub stampLine : Layout → Partitions → List ℕ → Line
+stampLine l p s = answeredLine (andThen (readCount s) (printBy l p))
 
 -- "times in ns to encoded counts"
+unfoldable pub countField : Answer CountAtTime → Answer (List ℕ)
+countField a = andThen a (λ c. answer (decimalOf (c .count)))
+
 unfoldable pub countLine : Bool → Table → List ℕ → Line
-countLine seconds t s =
-    answeredLine
-    (andThen (readTimeBy seconds s)
-    (λ time. andThen (countAt (t .layout) (t .partitions) (t .segments) time) (λ c. answer (decimalOf (c .count)))))
+countLine seconds t s = answeredLine (andThen (readTimeBy seconds s) (λ time. countField (countAt (t .layout) (t .partitions) (t .segments) time)))
 
 -- "same (both answer alike ..) .. or differ with both answers and by how much": the newer's time less the older's
 unfoldable pub bothLine : Bool → TimedStamp → TimedStamp → Bool → Line
@@ -87,9 +90,9 @@ compareLine seconds (refused j) (refused k) = refusedLine j k (eqb (j .number) (
 
 -- a line without its byte 13; a query of one table asks the first
 unfoldable pub lineBy : Query → Bool → Table → Table → List ℕ → Line
-lineBy Asked.Time seconds older newer s = timeLine seconds older (stampBy older s)
-lineBy Asked.Messages seconds older newer s = timeLine seconds older (messageBy older s)
-lineBy Asked.Stamp seconds older newer s = stampLine older s
+lineBy Asked.Time seconds older newer s = timeLine seconds (older .layout) (older .partitions) (stampBy older s)
+lineBy Asked.Messages seconds older newer s = timeLine seconds (older .layout) (older .partitions) (messageBy older s)
+lineBy Asked.Stamp seconds older newer s = stampLine (older .layout) (older .partitions) s
 lineBy Asked.Count seconds older newer s = countLine seconds older s
 lineBy Asked.Compare seconds older newer s = compareLine seconds (stampBy older s) (stampBy newer s)
 lineBy Asked.CompareMessages seconds older newer s = compareLine seconds (messageBy older s) (messageBy newer s)

@@ -24,12 +24,15 @@ module _ (text : List ℕ) (at : ℕ) (entry : List ℕ) where
   pub text-begins : Written (take 0 text) (at + 0) at entry entry
   text-begins = rw add-zero (nothing-written at entry)
 
-  pub text-next : (i : ℕ) {out : List ℕ} → Written (take i text) (at + i) at entry out → i < length text → at + length text ≤ length entry
+  pub text-next : (i n : ℕ) {out : List ℕ} → Written (take i text) (at + i) at entry out → i < n → n ≤ length text → at + n ≤ length entry
       → Written (take (i + 1) text) (at + (i + 1)) at entry (set out (at + i) (getD text i 0))
-  text-next i {out} w h r = rw (add-one, take-suc text i 0 h, ← add-one, ← add-assoc) (byte-then (getD text i 0) w (omega arith))
+  text-next i n {out} w h l r = rw (add-one, take-suc text i 0 (omega arith), ← add-one, ← add-assoc) (byte-then (getD text i 0) w (omega arith))
 
-  pub text-done : (i : ℕ) {out : List ℕ} → Written (take i text) (at + i) at entry out → length text ≤ i → Written text (at + i) at entry out
-  text-done i w h = rw (take-all i text h) at w
+  pub text-at : (i n : ℕ) {out : List ℕ} → Written (take i text) (at + i) at entry out → i ≤ n → n ≤ i → Written (take n text) (at + i) at entry out
+  text-at i n w h k = let e : i ≡ n = omega arith in rw (← e) w
+
+  pub text-whole : (r : ℕ) {out : List ℕ} → Written (take (length text) text) r at entry out → Written text r at entry out
+  text-whole r w = rw (take-all (length text) text (omega arith)) at w
 
 pub byte-put : (x at : ℕ) {entry : List ℕ} → at < length entry → Written (x ∷ []) (at + 1) at entry (set entry at x)
 byte-put x at {entry} h = byte-then x (nothing-written at entry) h

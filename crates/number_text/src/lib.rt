@@ -2,7 +2,7 @@
 ghost use mathlib.Core.Path.{_≡_};
 ghost use mathlib.Core.List.{[], _∷_, _++_};
 ghost use Prim.Native.Nat.{_+_, _≤_, _<_};
-ghost use lib.ListN.{length};
+ghost use lib.ListN.{length, take};
 ghost use Rattle.rules.specs.Print.{digitCount};
 ghost use Rattle.decimal.specs.Writing.{Written};
 ghost use Rattle.number_text.specs.Numbers.{decimalOf, timeBytes, longestNumber};
@@ -16,8 +16,18 @@ pub fn put_bytes(out: &mut [u8], at: usize, text: &[u8]) -> usize
     requires { ⌜ at + length (now text) ≤ length (now out) ⌝ }
     ensures { λ r. ⌜ Written (now (text .entry)) r at (now (out .entry)) (now (out .exit)) ⌝ }
 {
+    put_front(out, at, text, text.len())
+}
+
+// The first `n` bytes of a text.
+pub fn put_front(out: &mut [u8], at: usize, text: &[u8], n: usize) -> usize
+    requires { ⌜ n ≤ length (now text) ⌝ }
+    requires { ⌜ at + n ≤ length (now out) ⌝ }
+    ensures { λ r. ⌜ Written (take n (now (text .entry))) r at (now (out .entry)) (now (out .exit)) ⌝ }
+    ensures { λ r. ⌜ r ≡ at + n ⌝ }
+{
     let mut i = 0;
-    while i < text.len() {
+    while i < n {
         out[at + i] = text[i];
         i += 1;
     }

@@ -1,0 +1,2 @@
+-- The lines put together of their fields.
+pub mod Answers

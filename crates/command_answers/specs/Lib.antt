@@ -1,0 +1,2 @@
+-- A line's answer, put into a buffer.
+pub mod Put
