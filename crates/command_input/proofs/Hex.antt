@@ -1,16 +1,15 @@
 -- Hex digits, the bytes that they make, and what each way out of reading them says.
-use Prim.Native.Nat.{ℕ, suc, _+_, _-_, _*_, _/_, _%_, _≤_, _<_}
-use mathlib.Core.Path.{_≡_, refl, sym, ap, _∙_}
+use Prim.Native.Nat.{ℕ, _+_, _-_, _*_, _%_, _≤_, _<_}
+use mathlib.Core.Path.{_≡_, sym, _∙_}
 use mathlib.Core.Bool.{Bool, true, false, not}
-use mathlib.Core.List.{List, [], _∷_, _++_, append-assoc, append-nil}
-use lib.Dec.{leb, eqb}
+use mathlib.Core.List.{List, _++_, append-assoc, append-nil}
+use lib.Dec.{leb}
 use lib.ListN.{length, take, drop, getD, set, drop-of-length-le}
 use lib.Seq.{take-suc-set}
 use native.Mathlib.Numerals.{add-one}
 use native.Mathlib.Omega.{arith}
 use borrow.Author.Tests.{lt-leb, le-leb, leb-true, leb-false, eq-eqb, ne-eqb}
-use Rattle.base.specs.Scans.{all}
-use Rattle.base.proofs.Tests.{by-test, not-both, and-first, and-second, and-out-first, and-out-second, or-neither}
+use Rattle.base.proofs.Tests.{by-test, not-both, and-out-first, and-out-second, or-neither}
 use Rattle.base.proofs.Lists.{drop-next, all-getD}
 use Rattle.rules.specs.declared.Refusal.{Refusal}
 use Rattle.rules.specs.Answer.{answer, refused, refuse, placed, unless, unlessAt, failsAt}

@@ -1,7 +1,7 @@
 -- One byte 13 at a line's end.
 use Prim.Native.Nat.{ℕ, _-_, _≤_}
-use mathlib.Core.Path.{_≡_, sym, _∙_}
-use mathlib.Core.List.{List, []}
+use mathlib.Core.Path.{_≡_, sym}
+use mathlib.Core.List.{List}
 use lib.ListN.{length, take, getD, List·getD-eq-default}
 use lib.Seq.{take-length, take-all}
 use native.Mathlib.Omega.{arith}

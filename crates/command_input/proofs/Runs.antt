@@ -1,5 +1,5 @@
 -- The bytes of a kind at the front of a text: a walk along them, and the first byte of another kind.
-use Prim.Native.Nat.{ℕ, zero, suc, _+_, _≤_, _<_}
+use Prim.Native.Nat.{ℕ, suc, _+_, _≤_, _<_}
 use mathlib.Core.Path.{_≡_, refl, sym, _∙_}
 use mathlib.Core.Bool.{Bool, true, false, not}
 use mathlib.Core.List.{List, [], _∷_}
@@ -15,11 +15,6 @@ use Rattle.command_rules.specs.Input.{firstOther}
 use Rattle.command_input.specs.Runs.{runLength}
 
 module _ (p : ℕ → Bool) where
-  pub run-within : (s : List ℕ) → runLength p s ≤ length s
-  unfolding runLength
-  run-within [] = omega arith
-  run-within (b ∷ s) = by-test (p b) (λ t. rw t (omega (arith, run-within s))) (λ f. rw f (omega arith))
-
   -- a run that is the whole text
   pub run-all : (s : List ℕ) → length s ≤ runLength p s → all p s ≡ true
   unfolding runLength all
@@ -59,9 +54,6 @@ module _ (p : ℕ → Bool) where
 
   -- the run from the place i on, which ends at the place e
   module _ (s : List ℕ) (i e : ℕ) (h : e ≡ i + runLength p (drop i s)) where
-    pub run-end-within : i ≤ length s → e ≤ length s
-    run-end-within l = omega (arith, run-within (drop i s), length-drop i s)
-
     pub other-found : e < length s → firstOther p i (drop i s) ≡ some e
     other-found l = rw h (first-some i (drop i s) (omega (arith, length-drop i s)))
 
