@@ -3,7 +3,6 @@
 use Prim.Native.Nat.{ℕ, min}
 use mathlib.Core.Bool.{Bool, _&&_, cond}
 use mathlib.Core.List.{List}
-use mathlib.Core.Option.{Option, none, some}
 use lib.Dec.{ltb}
 use lib.ListN.{length, getD}
 use Rattle.base.specs.Scans.{isNone}
@@ -13,12 +12,7 @@ use Rattle.versions.specs.Versions.{Table}
 use Rattle.succession_rules.specs.declared.HorizonAnswer.{HorizonAnswer}
 use Rattle.succession_rules.specs.declared.HorizonAnswer.the-variants as Horizons
 use Rattle.succession_rules.specs.OfTwo.{OfTwo, answered, older-refused, newer-refused, ofTwo}
-use Rattle.succession_rules.specs.Kept.{sameLayout, partitionLost, segmentLost}
-
--- the row that was found, or n
-unfoldable pub rowOr : ℕ → Option ℕ → ℕ
-rowOr n (some i) = i
-rowOr n none = n
+use Rattle.succession_rules.specs.Kept.{rowOr, sameLayout, partitionLost, segmentLost}
 
 -- the first row in which the two lists of segments differ, also where one has ended: that many rows they share
 unfoldable pub sharedRows : Segments → Segments → ℕ

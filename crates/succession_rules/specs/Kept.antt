@@ -3,7 +3,7 @@
 use Prim.Native.Nat.{ℕ, _+_}
 use mathlib.Core.Bool.{Bool, not, _||_, cond}
 use mathlib.Core.List.{List, [], _∷_}
-use mathlib.Core.Option.{Option}
+use mathlib.Core.Option.{Option, none, some}
 use lib.Dec.{eqb, leb, ltb}
 use lib.ListN.{length, take, getD}
 use Rattle.base.specs.Scans.{allOf, firstNot}
@@ -14,6 +14,11 @@ use Rattle.rules.specs.Layout.{moduliOf, offsetsOf}
 use Rattle.rules.specs.Partitions.{Partitions, partitionsIn, startOf, endOf}
 use Rattle.rules.specs.Segments.{Segments, segmentsIn, rowOf, stepsBackAt}
 use Rattle.versions.specs.Equal.{eqZ, same}
+
+-- the row that was found, or n, the number of rows: so many rows at the front are as they must be
+unfoldable pub rowOr : ℕ → Option ℕ → ℕ
+rowOr n (some i) = i
+rowOr n none = n
 
 -- "n, the first n moduli, the first n offsets and the delimiter are equal"
 unfoldable pub sameLayout : Layout → Layout → Bool
