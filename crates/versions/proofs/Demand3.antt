@@ -39,7 +39,7 @@ module _ (t : Table) (ok : Accepted t) where
   unfolding unless unlessAt
   through-two a = rw (ok .layout, nothing (partitionsFault (productOf (t .layout)) (t .partitions)) (ok .partitions))
 
-  through-three : {A : Type 0} (a : Answer A) → accepted (t .layout) (t .partitions) (t .segments) a ≡ a
+  pub through-three : {A : Type 0} (a : Answer A) → accepted (t .layout) (t .partitions) (t .segments) a ≡ a
   unfolding accepted unlessAt
   through-three a = rw (through-two, nothing (segmentsFault (unitOf (t .layout)) (totalOf (t .partitions)) (t .segments)) (ok .segments))
 

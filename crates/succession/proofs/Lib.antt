@@ -1,0 +1,3 @@
+-- From what the parts say to the two calls.
+pub mod Verdicts
+pub mod Calls
