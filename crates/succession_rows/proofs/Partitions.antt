@@ -9,7 +9,7 @@ use native.Mathlib.Omega.{arith}
 use borrow.Author.Tests.{eq-eqb, ne-eqb, lt-ltb, le-ltb, not-true, not-false}
 use Rattle.base.specs.Scans.{allOf, allBelow}
 use Rattle.base.proofs.Scans.{all-start}
-use Rattle.rules.specs.Partitions.{Partitions, partitions, partitionsIn}
+use Rattle.rules.specs.Partitions.{partitions}
 use Rattle.succession_rules.specs.Kept.{rowOr, endKept, partitionKept, partitionLost}
 use Rattle.succession_rows.specs.Lists.{OneLength}
 use Rattle.succession_rows.proofs.Scanned.{next, stopped, ended}

@@ -1,26 +1,19 @@
 -- What a row that is kept has, and a row that has it is kept.
-use Prim.Native.Nat.{ℕ, _+_, _-_, _≤_, _<_}
+use Prim.Native.Nat.{ℕ, _+_, _≤_, _<_}
 use native.Mathlib.Omega.{arith}
-use mathlib.Core.Path.{_≡_, refl, ap}
-use mathlib.Core.Bool.{Bool, true, false}
+use mathlib.Core.Path.{_≡_, refl}
+use mathlib.Core.Bool.{true}
 use mathlib.Core.Option.{none}
 use lib.Dec.{ltb}
 use borrow.Author.Tests.{ltb-true, ltb-false, leb-true, eqb-true, lt-ltb, le-ltb, le-leb, eq-eqb}
 use Rattle.base.specs.Scans.{allOf}
 use Rattle.base.proofs.Tests.{by-test, and-both, all-of-head, all-of-tail}
 use Rattle.base.proofs.Scans.{first-not-missing}
-use Rattle.rules.specs.declared.Segment.{Segment}
-use Rattle.rules.specs.Partitions.{Partitions, partitionsIn, startOf, endOf}
-use Rattle.rules.specs.Segments.{Segments, segmentsIn, rowOf}
+use Rattle.rules.specs.Partitions.{Partitions, partitionsIn, endOf}
+use Rattle.rules.specs.Segments.{Segments, segmentsIn}
 use Rattle.versions.proofs.Equal.{eqZ-true, eq-eqZ}
+use Rattle.succession_rules.specs.Rows.{PartitionRow, SegmentRow}
 use Rattle.succession_rules.specs.Kept.{endKept, partitionKept, partitionLost, sameSegment, segmentKept, segmentLost}
-
--- partition i of p is kept in q
-pub record PartitionRow (p q : Partitions) (i : ℕ) : Type 0 where
-  pub there : i < partitionsIn q
-  pub start : startOf q i ≡ startOf p i
-  pub inner : i + 1 < partitionsIn p → endOf q i ≡ endOf p i
-  pub last : partitionsIn p ≤ i + 1 → endOf p i ≤ endOf q i
 
 pub partition-row : (p q : Partitions) (i : ℕ) → partitionKept p q i ≡ true → PartitionRow p q i
 unfolding partitionKept endKept
@@ -43,13 +36,6 @@ row-partition p q i w =
     (λ t. rw (t, eq-eqb (endOf q i) (endOf p i) (w .inner (ltb-true _ _ t))))
     (λ f. rw (f, le-leb (endOf p i) (endOf q i) (w .last (ltb-false _ _ f))))))
 
--- segment i of g is kept in h
-pub record SegmentRow (g h : Segments) (i : ℕ) : Type 0 where
-  pub there : i < segmentsIn h
-  pub count : rowOf h i .count ≡ rowOf g i .count
-  pub time : rowOf h i .time ≡ rowOf g i .time
-  pub rate : rowOf h i .rate ≡ rowOf g i .rate
-
 pub segment-row : (g h : Segments) (i : ℕ) → segmentKept g h i ≡ true → SegmentRow g h i
 unfolding segmentKept sameSegment
 segment-row g h i k =
@@ -69,7 +55,7 @@ row-segment g h i w =
     (and-both (and-both (eq-eqb _ _ (w .count)) (and-both (eq-eqZ _ _ (w .time)) (and-both (eq-eqb _ _ (w .rate)) refl))) refl)
 
 -- n rows that are all there fit
-rows-fit : (n m : ℕ) → ((i : ℕ) → i < n → i < m) → n ≤ m
+pub rows-fit : (n m : ℕ) → ((i : ℕ) → i < n → i < m) → n ≤ m
 rows-fit n m f = by-test (ltb m n) (λ t. let b : m < n = ltb-true m n t in let c = f m b in omega arith) (λ e. ltb-false m n e)
 
 -- where every row of the older is kept, the newer has as many

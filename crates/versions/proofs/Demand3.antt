@@ -56,18 +56,20 @@ unfolding shown only-print andThen lengthPrinted bufferAfter
 shown-print (answer s) b = ap (λ f. answer (record { returned = length s; bytes = f })) (take-append-seam s (drop (length s) b))
 shown-print (refused k) b = refl
 
+-- a stamp is read by the layout and the partitions alone
+pub reads-agree : (older newer : Table) → Accepted older → Accepted newer → OneLayout (older .layout) (newer .layout) → KeptPartitions (older .partitions) (newer .partitions)
+    → (s : List ℕ) → Agree olderRefusesStamp (readBy older s) (readBy newer s)
+unfolding readStamp
+reads-agree older newer was is one rows s =
+    rw (through-two older was, through-two newer is, one .moduli, one .offsets)
+    (agree-then _ _ (agree-same refl) (encode-agrees _ _ rows))
+
 module _ (older newer : Table) (was : Accepted older) (is : Accepted newer) (says : (h : Hypothesis) → SaysAtSeam older newer h) where
   one : OneLayout (older .layout) (newer .layout)
   one = one-layout older newer was is says
 
   rows : KeptPartitions (older .partitions) (newer .partitions)
   rows = kept-partitions older newer was is says
-
-  reads : (s : List ℕ) → Agree olderRefusesStamp (readBy older s) (readBy newer s)
-  unfolding readStamp
-  reads s =
-      rw (through-two older was, through-two newer is, one .moduli, one .offsets)
-      (agree-then _ _ (agree-same refl) (encode-agrees _ _ rows))
 
   times-agree : (e : ℕ) → Agree olderRefusesCount (timeBy older e) (timeBy newer e)
   unfolding timeOf
@@ -120,7 +122,7 @@ module _ (older newer : Table) (was : Accepted older) (is : Accepted newer) (say
 pub at-seam : NeverMisleadsAtSeam
 at-seam older newer was is says =
     record {
-      reading = reads older newer was is says;
+      reading = reads-agree older newer was is (one older newer was is says) (rows older newer was is says);
       printing = prints-agree older newer was is says;
       exception = apart older newer was is says;
       time-of = times-agree older newer was is says;

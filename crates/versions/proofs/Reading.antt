@@ -21,14 +21,14 @@ module _ (p q : Partitions) (kept : KeptPartitions p q) (c : ℕ) where
   unfolding holds
   holds-same i b = rw (kept .starts i (omega arith), kept .ends i b)
 
-  holds-up : (i : ℕ) → i < partitionsIn p → holds p c i ≡ true → holds q c i ≡ true
+  pub holds-up : (i : ℕ) → i < partitionsIn p → holds p c i ≡ true → holds q c i ≡ true
   unfolding holds
   holds-up i b y =
       let c-low = and-first (leb (startOf p i) c) (leb c (endOf p i)) y in
       let c-high : c ≤ endOf p i = leb-true _ _ (and-second (leb (startOf p i) c) (leb c (endOf p i)) y) in
       rw (kept .starts i b) (and-both c-low (le-leb c (endOf q i) (omega (arith, end-up p q kept i b))))
 
-  encoded-same : (i : ℕ) → i < partitionsIn p → encodedIn q c i ≡ encodedIn p c i
+  pub encoded-same : (i : ℕ) → i < partitionsIn p → encodedIn q c i ≡ encodedIn p c i
   unfolding encodedIn
   encoded-same i b = rw (before-same p q kept i b, kept .starts i b)
 

@@ -2,7 +2,7 @@
 -- proofs/Demand3.antt proves `NeverMisleadsAtSeam`, and demand 3 from it.
 use Prim.Native.Nat.{ℕ, _-_}
 use mathlib.Core.Path.{_≡_}
-use mathlib.Core.Bool.{true, false}
+use mathlib.Core.Bool.{false}
 use Rattle.rules.specs.Layout.{unitOf}
 use Rattle.rules.specs.Segments.{segmentsIn, stepsBackAt}
 use Rattle.versions.specs.Versions.{Table, Accepted, Hypothesis, Says, Demand3}

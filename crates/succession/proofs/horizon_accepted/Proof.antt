@@ -1,4 +1,3 @@
-use mathlib.Core.Path.{refl}
 use borrow.Author.Needs.{needs}
 use Rattle.succession.proofs.Verdicts.{no-layout, no-partitions, horizon-is}
 use Rattle.succession.proofs.horizon_accepted.Statement.{statement}
