@@ -1,4 +1,4 @@
--- Each way out of `succeeds_accepted` and of `horizon_accepted`. The code has the older's total, the newer's unit, and a row for each part.
+-- Each way out of `succeeds_within` and of `horizon_within`. The code has the older's total, the newer's unit, and a row for each part.
 use Prim.Native.Nat.{ℕ, _-_, _≤_, _<_}
 use native.Mathlib.Omega.{arith}
 use mathlib.Core.Path.{_≡_, _∙_}

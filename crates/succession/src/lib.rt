@@ -93,7 +93,7 @@ fn succeeds_after(
         newer_times,
         newer_rates,
     ) {
-        Acceptance::Accepted(newer_basis) => succeeds_accepted(
+        Acceptance::Accepted(newer_basis) => succeeds_within(
             older,
             older_starts,
             older_ends,
@@ -184,7 +184,7 @@ fn horizon_after(
         newer_times,
         newer_rates,
     ) {
-        Acceptance::Accepted(newer_basis) => HorizonAnswer::Horizon(horizon_accepted(
+        Acceptance::Accepted(newer_basis) => HorizonAnswer::Horizon(horizon_within(
             older,
             older_starts,
             older_ends,
@@ -205,7 +205,7 @@ fn horizon_after(
 }
 
 // Whether the newer of two accepted tables succeeds the older, by what accepting them gave.
-pub fn succeeds_accepted(
+pub fn succeeds_within(
     older: Layout,
     older_starts: &[u64],
     older_ends: &[u64],
@@ -267,7 +267,7 @@ fn fails(condition: Condition, row: usize) -> SuccessionAnswer
 }
 
 // The count below which two accepted tables agree.
-pub fn horizon_accepted(
+pub fn horizon_within(
     older: Layout,
     older_starts: &[u64],
     older_ends: &[u64],

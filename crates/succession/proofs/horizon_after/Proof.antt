@@ -5,8 +5,8 @@ use Rattle.succession.proofs.Calls.{checked-refused, checked-accepted, 
 use Rattle.succession.proofs.horizon_after.Statement.{statement}
 use Rattle.succession.proofs.horizon_after.Tie as tie
 
-horizon-accepted-requires : tie.Need-horizon-accepted-requires
-horizon-accepted-requires c κs = (search needs, search (table-facts, needs))
+horizon-within-requires : tie.Need-horizon-within-requires
+horizon-within-requires c κs = (search needs, search (table-facts, needs))
 
 pub horizon-after-spec : {M : Type 1} → statement M
 horizon-after-spec =
@@ -15,7 +15,7 @@ horizon-after-spec =
     (λ c κs. search needs)
     (λ c κs. search (measured-in-limits, needs))
     (λ c. search needs)
-    horizon-accepted-requires
+    horizon-within-requires
     (λ c. search needs)
     (λ c. search (horizon-both, checked-facts, checked-accepted, needs))
     (λ c. search (horizon-newer, checked-facts, checked-refused, needs)))

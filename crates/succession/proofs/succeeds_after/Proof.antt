@@ -5,8 +5,8 @@ use Rattle.succession.proofs.Calls.{checked-refused, checked-accepted, 
 use Rattle.succession.proofs.succeeds_after.Statement.{statement}
 use Rattle.succession.proofs.succeeds_after.Tie as tie
 
-succeeds-accepted-requires : tie.Need-succeeds-accepted-requires
-succeeds-accepted-requires c κs = (search needs, search (table-facts, needs))
+succeeds-within-requires : tie.Need-succeeds-within-requires
+succeeds-within-requires c κs = (search needs, search (table-facts, needs))
 
 pub succeeds-after-spec : {M : Type 1} → statement M
 succeeds-after-spec =
@@ -15,7 +15,7 @@ succeeds-after-spec =
     (λ c κs. search needs)
     (λ c κs. search (measured-in-limits, needs))
     (λ c. search needs)
-    succeeds-accepted-requires
+    succeeds-within-requires
     (λ c. search needs)
     (λ c. search (succession-both, checked-facts, checked-accepted, needs))
     (λ c. search (succession-newer, checked-facts, checked-refused, needs)))

@@ -1,8 +1,8 @@
 use mathlib.Core.Path.{refl}
 use borrow.Author.Needs.{needs}
 use Rattle.succession.proofs.Verdicts.{shared-fit, unit-low, seam-low, layout-fails, partition-fails, segment-fails, further-fails, seam-fails, all-hold}
-use Rattle.succession.proofs.succeeds_accepted.Statement.{statement}
-use Rattle.succession.proofs.succeeds_accepted.Tie as tie
+use Rattle.succession.proofs.succeeds_within.Statement.{statement}
+use Rattle.succession.proofs.succeeds_within.Tie as tie
 
 steps-back-at-requires : tie.Need-steps-back-at-requires
 steps-back-at-requires c κs = ((search (unit-low, needs), search (seam-low, refl, needs)), search needs)
@@ -27,8 +27,8 @@ returns-6 c =
     let given = layout .before .before .before .before .before .before .before .before .before .pre in
     all-hold _ _ (layout .same-layout .ensures) (spans .before .if1 .left) _ (spans .kept-partitions .ensures) (rows .before .if2 .left) _ (rows .shared-rows .ensures) (low .before .if3 .left) _ (given .0 .stamps .total) _ (low .further-low .ensures) (back .before .if4 .left) _ (given .1 .stamps .unit) _ refl (back .steps-back-at .ensures) (c .if5 .left)
 
-pub succeeds-accepted-spec : {M : Type 1} → statement M
-succeeds-accepted-spec =
+pub succeeds-within-spec : {M : Type 1} → statement M
+succeeds-within-spec =
     tie.close
     (tie.spec
     (λ c κs. search needs)

@@ -1,10 +1,10 @@
 use borrow.Author.Needs.{needs}
 use Rattle.succession.proofs.Verdicts.{no-layout, no-partitions, horizon-is}
-use Rattle.succession.proofs.horizon_accepted.Statement.{statement}
-use Rattle.succession.proofs.horizon_accepted.Tie as tie
+use Rattle.succession.proofs.horizon_within.Statement.{statement}
+use Rattle.succession.proofs.horizon_within.Tie as tie
 
-pub horizon-accepted-spec : {M : Type 1} → statement M
-horizon-accepted-spec =
+pub horizon-within-spec : {M : Type 1} → statement M
+horizon-within-spec =
     tie.close
     (tie.spec
     (λ c κs. search needs)
