@@ -1,0 +1,2 @@
+-- A line by what is asked of it.
+pub mod Lines

@@ -1,0 +1,2 @@
+-- A table of lists.
+pub mod Tables
