@@ -1,3 +1,2 @@
--- From what the parts say to the two calls.
-pub mod Verdicts
+-- From what accepting each table says to the two calls.
 pub mod Calls

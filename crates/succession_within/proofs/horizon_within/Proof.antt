@@ -1,7 +1,7 @@
 use borrow.Author.Needs.{needs}
-use Rattle.succession.proofs.Verdicts.{no-layout, no-partitions, horizon-is}
-use Rattle.succession.proofs.horizon_within.Statement.{statement}
-use Rattle.succession.proofs.horizon_within.Tie as tie
+use Rattle.succession_within.proofs.Verdicts.{no-layout, no-partitions, horizon-is}
+use Rattle.succession_within.proofs.horizon_within.Statement.{statement}
+use Rattle.succession_within.proofs.horizon_within.Tie as tie
 
 pub horizon-within-spec : {M : Type 1} → statement M
 horizon-within-spec =

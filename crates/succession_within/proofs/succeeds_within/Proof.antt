@@ -1,8 +1,8 @@
 use mathlib.Core.Path.{refl}
 use borrow.Author.Needs.{needs}
-use Rattle.succession.proofs.Verdicts.{shared-fit, unit-low, seam-low, layout-fails, partition-fails, segment-fails, further-fails, seam-fails, all-hold}
-use Rattle.succession.proofs.succeeds_within.Statement.{statement}
-use Rattle.succession.proofs.succeeds_within.Tie as tie
+use Rattle.succession_within.proofs.Verdicts.{shared-fit, unit-low, seam-low, layout-fails, partition-fails, segment-fails, further-fails, seam-fails, all-hold}
+use Rattle.succession_within.proofs.succeeds_within.Statement.{statement}
+use Rattle.succession_within.proofs.succeeds_within.Tie as tie
 
 steps-back-at-requires : tie.Need-steps-back-at-requires
 steps-back-at-requires c κs = ((search (unit-low, needs), search (seam-low, refl, needs)), search needs)

@@ -1,0 +1,2 @@
+-- From what the parts say to the two answers.
+pub mod Verdicts
