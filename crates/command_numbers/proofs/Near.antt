@@ -106,11 +106,11 @@ module _ {A : Type 0} (f : ℤ → Answer A) where
     time-refused k h = time-passed a k (rw h at e)
 
 -- the stamp of a count that was read, under accepted tables
-pub stamp-of-read : (l : Layout) (p : Partitions) (b : Basis) → StampsFacts l p b → (room : ℕ) (q : CountGiven) (a : Answer ℕ) → givenCount q ≡ cappedCount a → (n : ℕ) → q ≡ Counts.Count n
-    → printStamp l p n room ≡ andThen a (λ e. printStamp l p e room)
-stamp-of-read l p b w room q a e n h = count-then (λ n. printStamp l p n room) q a e (λ n. print-near l p b w n room) n h
+module _ (l : Layout) (p : Partitions) (b : Basis) (w : StampsFacts l p b) (q : CountGiven) (a : Answer ℕ) (n : ℕ) (e : givenCount q ≡ cappedCount a) (h : q ≡ Counts.Count n) where
+  pub stamp-read : (room : ℕ) → printStamp l p n room ≡ andThen a (λ e. printStamp l p e room)
+  stamp-read room = count-then (λ n. printStamp l p n room) q a e (λ n. print-near l p b w n room) n h
 
--- the count at a time that was read, and what follows it
-pub count-of-read : {A : Type 0} (l : Layout) (p : Partitions) (g : Segments) (f : CountAtTime → Answer A) (q : TimeGiven) (a : Answer ℤ) → givenTime q ≡ cappedTime a → (t : ℤ) → q ≡ Times.Time t
-    → andThen (countAt l p g t) f ≡ andThen a (λ t. andThen (countAt l p g t) f)
-count-of-read l p g f q a e t h = time-then (λ t. andThen (countAt l p g t) f) q a e (λ t. ap (λ c. andThen c f) (count-near l p g t)) t h
+-- the count at a time that was read, of any tables
+module _ (l : Layout) (p : Partitions) (g : Segments) (q : TimeGiven) (a : Answer ℤ) (t : ℤ) (e : givenTime q ≡ cappedTime a) (h : q ≡ Times.Time t) where
+  pub count-read : (x : Answer CountAtTime) → x ≡ countAt l p g t → x ≡ andThen a (countAt l p g)
+  count-read x d = d ∙ time-then (countAt l p g) q a e (count-near l p g) t h
