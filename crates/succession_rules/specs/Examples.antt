@@ -57,9 +57,10 @@ slow l = table l (smallest .partitions) (segments (0 ∷ []) (pos 0 ∷ []) (2_0
 
 unfoldable pub cases : List Case
 cases =
-    -- "Table A cut to its first partition and segment", and table A; a table and itself
+    -- "Table A cut to its first partition and segment", and table A; a table and itself; the newer for the older
     yes cutA tableA 500
     ∷ yes tableA tableA 1_200
+    ∷ no tableA cutA Asked.Partition 1 0
     ∷ yes smallest smallest 1
     -- slots after the n-th may differ; nothing else of a layout
     ∷ yes smallest (under (clock 1 3 7 0 1)) 1
