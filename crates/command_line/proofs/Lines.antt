@@ -18,7 +18,7 @@ use Rattle.rules.specs.StampTime.{timeOfMessage}
 use Rattle.versions.specs.Versions.{Table}
 use Rattle.number_text.specs.Numbers.{decimalOf}
 use Rattle.tables.specs.declared.Basis.{Basis}
-use Rattle.tables.specs.Accept.{StampsFacts}
+use Rattle.tables.specs.Accept.{StampsFacts, TableFacts}
 use Rattle.command_rules.specs.declared.Query.{Query}
 use Rattle.command_rules.specs.declared.Query.the-variants as Asked
 use Rattle.command_rules.specs.Input.{withoutReturn, readCount, readTimeBy, readHex}
@@ -33,7 +33,8 @@ use Rattle.command_numbers.specs.declared.CountGiven.the-variants as Counts
 use Rattle.command_numbers.specs.declared.TimeGiven.{TimeGiven}
 use Rattle.command_numbers.specs.declared.TimeGiven.the-variants as Times
 use Rattle.command_numbers.specs.Given.{givenCount, givenTime, cappedCount, cappedTime}
-use Rattle.command_numbers.proofs.Near.{stamp-of-read, count-of-read, count-refused, time-refused}
+use Rattle.command_line.specs.Ready.{Ready, ready}
+use Rattle.command_numbers.proofs.Near.{print-near, count-near, count-then, count-refused, time-then, time-refused}
 
 -- a message in hex
 module _ (t : Table) (s : List ℕ) (q : HexGiven) (after : List ℕ) (e : hexAnswer q after ≡ readHex s) where
@@ -53,7 +54,7 @@ module _ {r : Put} {at : ℕ} {entry exit : List ℕ} where
   module _ (l : Layout) (p : Partitions) (b : Basis) (f : StampsFacts l p b) (s : List ℕ) (q : CountGiven) (e : givenCount q ≡ cappedCount (readCount s)) where
     pub stamp-line : (n : ℕ) → q ≡ Counts.Count n → PutLine (answeredLine (printBy l p n)) r at entry exit → PutLine (stampLine l p s) r at entry exit
     unfolding stampLine
-    stamp-line n h w = rw (← stamp-of-read l p b f longestText q (readCount s) e n h) w
+    stamp-line n h w = rw (← count-then (printBy l p) q (readCount s) e (λ m. print-near l p b f m longestText) n h) w
 
     pub stamp-out : (k : Refusal) → q ≡ Counts.Refused k → PutLine (answeredLine (refused k)) r at entry exit → PutLine (stampLine l p s) r at entry exit
     unfolding stampLine
@@ -63,8 +64,9 @@ module _ {r : Put} {at : ℕ} {entry exit : List ℕ} where
   module _ (seconds : Bool) (t : Table) (s : List ℕ) (q : TimeGiven) (e : givenTime q ≡ cappedTime (readTimeBy seconds s)) where
     pub count-line : (time : ℤ) (x : Answer CountAtTime) → q ≡ Times.Time time → x ≡ countAt (t .layout) (t .partitions) (t .segments) time
         → PutLine (answeredLine (countField x)) r at entry exit → PutLine (countLine seconds t s) r at entry exit
-    unfolding countLine countField
-    count-line time x h v w = rw (← count-of-read (t .layout) (t .partitions) (t .segments) (λ c. answer (decimalOf (c .count))) q (readTimeBy seconds s) e time h, ← v) w
+    unfolding countLine
+    count-line time x h v w =
+        rw (← time-then (λ z. countField (countAt (t .layout) (t .partitions) (t .segments) z)) q (readTimeBy seconds s) e (λ z. ap countField (count-near (t .layout) (t .partitions) (t .segments) z)) time h, ← v) w
 
     pub count-out : (k : Refusal) → q ≡ Times.Refused k → PutLine (answeredLine (refused k)) r at entry exit → PutLine (countLine seconds t s) r at entry exit
     unfolding countLine
@@ -100,3 +102,14 @@ module _ {r : Put} {at : ℕ} {entry exit : List ℕ} where
     pub line-text : (k : ℕ) → take k s ≡ withoutReturn s → PutLine (lineBy q seconds o n (take k s)) r at entry exit → PutLine (lineOf q seconds o n s) r at entry exit
     unfolding lineOf
     line-text k e w = rw (← e) w
+
+-- the facts of each table
+module _ {l : Layout} {p : Partitions} {g : Segments} {b : Basis} {l′ : Layout} {p′ : Partitions} {g′ : Segments} {b′ : Basis} where
+  pub older-facts : Ready l p g b l′ p′ g′ b′ → TableFacts l p g b
+  older-facts (ready f f′) = f
+
+  pub newer-facts : Ready l p g b l′ p′ g′ b′ → TableFacts l′ p′ g′ b′
+  newer-facts (ready f f′) = f′
+
+  pub older-stamps : Ready l p g b l′ p′ g′ b′ → StampsFacts l p b
+  older-stamps (ready f f′) = f .stamps

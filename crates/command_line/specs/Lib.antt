@@ -1,2 +1,2 @@
--- A table of lists.
-pub mod Tables
+-- What a line is answered under.
+pub mod Ready

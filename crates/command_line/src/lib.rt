@@ -9,7 +9,8 @@ ghost use Rattle.rules.specs.StampTime.{timeOfMessage};
 ghost use Rattle.tables.specs.Accept.{StampsFacts, TableFacts};
 ghost use Rattle.command_rules.specs.Lines.{messageBy, stampLine, countLine, lineBy, lineOf};
 ghost use Rattle.command_answers.specs.Put.{longestLine, PutLine};
-ghost use Rattle.command_line.specs.Tables.{tableOf};
+ghost use Rattle.succession_rules.specs.OfTwo.{tableOf};
+ghost use Rattle.command_line.specs.Ready.{Ready};
 use accepted_calls::message_time;
 use accepted_calls::stamp_time;
 use accepted_calls::time_count;
@@ -53,8 +54,7 @@ pub fn put_line(
     out: &mut [u8],
     at: usize,
 ) -> Put
-    requires { ⌜ TableFacts older (partitions (now «older_starts») (now «older_ends»)) (segments (now «older_counts») (now «older_times») (now «older_rates»)) «older_basis» ⌝ }
-    requires { ⌜ TableFacts newer (partitions (now «newer_starts») (now «newer_ends»)) (segments (now «newer_counts») (now «newer_times») (now «newer_rates»)) «newer_basis» ⌝ }
+    requires { ⌜ Ready older (partitions (now «older_starts») (now «older_ends»)) (segments (now «older_counts») (now «older_times») (now «older_rates»)) «older_basis» newer (partitions (now «newer_starts») (now «newer_ends»)) (segments (now «newer_counts») (now «newer_times») (now «newer_rates»)) «newer_basis» ⌝ }
     requires { ⌜ at + longestLine ≤ length (now out) ⌝ }
     ensures { λ r. ⌜ PutLine (lineOf query seconds (tableOf older (now («older_starts» .entry)) (now («older_ends» .entry)) (now («older_counts» .entry)) (now («older_times» .entry)) (now («older_rates» .entry))) (tableOf newer (now («newer_starts» .entry)) (now («newer_ends» .entry)) (now («newer_counts» .entry)) (now («newer_times» .entry)) (now («newer_rates» .entry))) (now (line .entry))) r at (now (out .entry)) (now (out .exit)) ⌝ }
 {
@@ -104,8 +104,7 @@ fn put_text(
     out: &mut [u8],
     at: usize,
 ) -> Put
-    requires { ⌜ TableFacts older (partitions (now «older_starts») (now «older_ends»)) (segments (now «older_counts») (now «older_times») (now «older_rates»)) «older_basis» ⌝ }
-    requires { ⌜ TableFacts newer (partitions (now «newer_starts») (now «newer_ends»)) (segments (now «newer_counts») (now «newer_times») (now «newer_rates»)) «newer_basis» ⌝ }
+    requires { ⌜ Ready older (partitions (now «older_starts») (now «older_ends»)) (segments (now «older_counts») (now «older_times») (now «older_rates»)) «older_basis» newer (partitions (now «newer_starts») (now «newer_ends»)) (segments (now «newer_counts») (now «newer_times») (now «newer_rates»)) «newer_basis» ⌝ }
     requires { ⌜ at + longestLine ≤ length (now out) ⌝ }
     ensures { λ r. ⌜ PutLine (lineBy query seconds (tableOf older (now («older_starts» .entry)) (now («older_ends» .entry)) (now («older_counts» .entry)) (now («older_times» .entry)) (now («older_rates» .entry))) (tableOf newer (now («newer_starts» .entry)) (now («newer_ends» .entry)) (now («newer_counts» .entry)) (now («newer_times» .entry)) (now («newer_rates» .entry))) (now (text .entry))) r at (now (out .entry)) (now (out .exit)) ⌝ }
 {

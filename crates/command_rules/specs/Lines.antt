@@ -100,6 +100,13 @@ lineBy Asked.CompareMessages seconds older newer s = compareLine seconds (messag
 unfoldable pub lineOf : Query → Bool → Table → Table → List ℕ → Line
 lineOf q seconds older newer l = lineBy q seconds older newer (withoutReturn l)
 
+-- what is printed of a line, and whether it is answered well
+abbrev pub lineText : Query → Bool → Table → Table → List ℕ → List ℕ
+lineText q seconds older newer l = lineOf q seconds older newer l .text
+
+abbrev pub lineWell : Query → Bool → Table → Table → List ℕ → Bool
+lineWell q seconds older newer l = lineOf q seconds older newer l .well
+
 -- the line buffer: the longest message in hex, a byte 13, and one byte more
 abbrev pub lineBuffer : ℕ
 lineBuffer = roomFor (longestHex + 1)

@@ -2,7 +2,6 @@
 // the number and its place. `run`, `write_answers` and `write_last` move bytes by system calls; all else works on slices, and its contracts say
 // every byte.
 ghost use mathlib.Core.Path.{_≡_};
-ghost use mathlib.Core.Bool.{cond};
 ghost use Prim.Native.Nat.{_+_, _≤_, min};
 ghost use lib.ListN.{length, take, replicate};
 ghost use Rattle.rules.specs.Answer.{stampAnswer};
@@ -16,6 +15,7 @@ use crate::put::LONGEST_ANSWER;
 use crate::put::put_stamp;
 use libc::STDIN_FILENO;
 use libc::STDOUT_FILENO;
+use line_output::kept_after;
 use lines::LineStep;
 use rules::Layout;
 use rules::StampAnswer;
@@ -146,14 +146,6 @@ fn put_ended(out: &mut [u8], at: usize, step: LineStep, line: &[u8]) -> usize
         return put_stamp(out, at, answer(&line[..n]));
     }
     at
-}
-
-// After a line has ended nothing is kept of the next.
-fn kept_after(step: LineStep) -> usize
-    ensures { λ r. ⌜ r ≡ cond (step .ended) 0 (step .kept) ⌝ }
-    ensures { λ r. ⌜ r ≤ step .kept ⌝ }
-{
-    if step.ended { 0 } else { step.kept }
 }
 
 // Puts the answer of a last line without byte 10 to the front of the buffer; of no line where no byte is kept.

@@ -1,0 +1,2 @@
+-- The output as the input comes in.
+pub mod Pieces
