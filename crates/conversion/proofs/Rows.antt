@@ -7,7 +7,7 @@ use lib.IntN.{ℤ, pos, negsuc}
 use lib.Dec.{leb, ltb, lit<}
 use lib.ListN.{getD}
 use lib.Signed.{leZ, mag}
-use borrow.Author.Tests.{leb-true, leb-false, le-leb, ltb-true, ltb-false}
+use borrow.Author.Tests.{leb-true, leb-false, le-leb, lt-ltb, ltb-true, ltb-false}
 use native.Mathlib.Nat.{mul-le-mul-left, le-trans, le-of-mul-le-mul-right}
 use native.Mathlib.Omega.{arith}
 use Rattle.base.specs.Rounding.{roundDown}
@@ -128,6 +128,20 @@ module _ (unit total : ℕ) (g : Segments) (fg : SegmentsFacts unit total g) whe
                   later-small (2 ^ 63) 4_000_000_000_000_000_000 (rowOf g i .time) _ (omega arith)
                   (time-small (rowOf g i .time) (fg .each i count-row .early) (fg .each i count-row .late)) reached;
             }
+
+    -- a segment that has a next one, at the count of that one
+    pub next-to-time : (i : ℕ) → i + 1 < segmentsIn g → ToTime unit (rowOf g i) (rowOf g (i + 1) .count)
+    unfolding lineAt segmentEnd
+    next-to-time i h =
+        let row = fg .each i (omega arith) in
+        record {
+          unit-low = fu .low;
+          unit-high = omega (arith, fu .high);
+          begun = omega (arith, fg .grow i h .counts);
+          reached =
+              later-small (2 ^ 63) 4_000_000_000_000_000_000 (rowOf g i .time) _ (omega arith)
+              (time-small (rowOf g i .time) (row .early) (row .late)) (rw (lt-ltb (i + 1) (segmentsIn g) h) at (row .line));
+        }
 
     -- the segment at the time t
     module _ (t : ℤ) (i : ℕ) (found : segmentAt (g .times) t ≡ some i) where

@@ -94,7 +94,7 @@ pub fn stamp_at(layout: Layout, place: Decoded, buffer: &mut [u8]) -> PrintAnswe
 }
 
 // "1 `.`, 2 `:`, 3 `-`, 4 `,`, 5 blank"
-fn delimiter_byte(code: u8) -> u8
+pub fn delimiter_byte(code: u8) -> u8
     requires { ⌜ (1 ≤ code) × (code ≤ lastDelimiter) ⌝ }
     ensures { λ r. ⌜ r ≡ delimiterByte code ⌝ }
 {

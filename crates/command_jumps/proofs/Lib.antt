@@ -1,0 +1,2 @@
+-- Gaps and steps back, as the code tells and counts them.
+pub mod Jumps

@@ -1,0 +1,2 @@
+-- What the lines between accepted segments need.
+pub mod Reached

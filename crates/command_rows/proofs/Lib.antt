@@ -1,0 +1,3 @@
+-- Rows one by one; the lines of partitions.
+pub mod RowByRow
+pub mod PartitionLines

@@ -1,0 +1,2 @@
+-- Rows put into a buffer, and the line of a partition.
+pub mod Rows

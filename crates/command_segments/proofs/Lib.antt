@@ -1,0 +1,2 @@
+-- The lines of segments, as the code puts them.
+pub mod SegmentLines

@@ -1,0 +1,2 @@
+-- The line of a segment in its parts.
+pub mod SegmentRow
