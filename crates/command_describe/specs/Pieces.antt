@@ -1,0 +1,32 @@
+-- The description in the pieces in which it is written.
+use Prim.Native.Nat.{ℕ, _≤_}
+use mathlib.Core.Path.{_≡_}
+use mathlib.Core.Bool.{Bool}
+use mathlib.Core.List.{List, [], _∷_, _++_}
+use lib.IntN.{ℤ}
+use Rattle.rules.specs.Layout.{unitOf}
+use Rattle.rules.specs.Partitions.{partitionsIn}
+use Rattle.rules.specs.Segments.{segmentsIn, stepsBackAt}
+use Rattle.versions.specs.Versions.{Table}
+use Rattle.tables.specs.declared.Basis.{Basis}
+use Rattle.command_rules.specs.Describe.{countBelow, partitionLine, segmentLine, isGap, headText}
+use Rattle.command_ends.specs.Ends.{tailLines}
+use Rattle.command_rows.specs.Rows.{rowsBetween}
+
+-- one buffer after another: each goes on from the row at which the one before ended, to the next of these rows
+unfoldable pub rowPieces : (ℕ → List ℕ) → ℕ → List ℕ → List ℕ
+rowPieces line from [] = []
+rowPieces line from (next ∷ rows) = rowsBetween line from next ++ rowPieces line next rows
+
+-- rows at which buffers end: none is before the one before it, and the last is n
+pub data EndsAt (n : ℕ) : ℕ → List ℕ → Type 0 where
+  all-put : EndsAt n n []
+  then-next : {from next : ℕ} {rows : List ℕ} → from ≤ next → EndsAt n next rows → EndsAt n from (next ∷ rows)
+
+-- what is written of a table with this basis, by the rows at which the buffers of partitions and of segments end
+unfoldable pub written : ℤ → ℕ → Bool → Table → Basis → List ℕ → List ℕ → List ℕ
+written clock system seconds t b ps ss =
+    headText clock system (t .layout)
+    ++ (rowPieces (partitionLine (t .partitions)) 0 ps
+    ++ (rowPieces (segmentLine seconds (b .unit) (t .segments)) 0 ss
+    ++ tailLines (t .layout .n) (partitionsIn (t .partitions)) (b .total) (segmentsIn (t .segments)) (countBelow (isGap (b .unit) (t .segments)) (segmentsIn (t .segments))) (countBelow (stepsBackAt (b .unit) (t .segments)) (segmentsIn (t .segments)))))
