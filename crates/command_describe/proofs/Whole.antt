@@ -1,8 +1,8 @@
 -- The pieces that are written, behind one another, are the whole description, wherever the buffers end.
-use Prim.Native.Nat.{ℕ, _≤_}
+use Prim.Native.Nat.{ℕ}
 use mathlib.Core.Path.{_≡_, sym, _∙_, ap}
 use mathlib.Core.Bool.{Bool}
-use mathlib.Core.List.{List, [], _∷_, _++_, append-assoc, append-nil}
+use mathlib.Core.List.{List, _++_, append-assoc, append-nil}
 use lib.IntN.{ℤ}
 use Rattle.rules.specs.Layout.{unitOf}
 use Rattle.rules.specs.Partitions.{partitionsIn, totalOf}
@@ -40,4 +40,8 @@ pub whole-description : (clock : ℤ) (system : ℕ) (seconds : Bool) (t : Table
     → written clock system seconds t b ps ss ≡ describeText clock system seconds t
 unfolding written describeText
 whole-description clock system seconds t b ps ss f p s =
-    rw (f .stamps .unit, f .stamps .total, all-rows (partitionLine (t .partitions)) (partitionsIn (t .partitions)) ps p, all-rows (segmentLine seconds (unitOf (t .layout)) (t .segments)) (segmentsIn (t .segments)) ss s, tail-is t)
+    let ahead = headText clock system (t .layout) in
+    let rows = rowsText (partitionLine (t .partitions)) (partitionsIn (t .partitions)) in
+    let lines = rowsText (segmentLine seconds (unitOf (t .layout)) (t .segments)) (segmentsIn (t .segments)) in
+    rw (f .stamps .unit, f .stamps .total, all-rows (partitionLine (t .partitions)) (partitionsIn (t .partitions)) ps p, all-rows (segmentLine seconds (unitOf (t .layout)) (t .segments)) (segmentsIn (t .segments)) ss s)
+    (ap (λ (tail : List ℕ). ahead ++ (rows ++ (lines ++ tail))) (tail-is t))

@@ -1,10 +1,8 @@
 -- The description in the pieces in which it is written.
 use Prim.Native.Nat.{ℕ, _≤_}
-use mathlib.Core.Path.{_≡_}
 use mathlib.Core.Bool.{Bool}
 use mathlib.Core.List.{List, [], _∷_, _++_}
 use lib.IntN.{ℤ}
-use Rattle.rules.specs.Layout.{unitOf}
 use Rattle.rules.specs.Partitions.{partitionsIn}
 use Rattle.rules.specs.Segments.{segmentsIn, stepsBackAt}
 use Rattle.versions.specs.Versions.{Table}

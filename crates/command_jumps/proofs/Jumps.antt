@@ -1,6 +1,6 @@
 -- Gaps and steps back, as the code tells and counts them.
 use Prim.Native.Nat.{ℕ, zero, suc, _+_, _≤_, _<_}
-use mathlib.Core.Path.{_≡_, refl, sym, _∙_}
+use mathlib.Core.Path.{_≡_, sym, _∙_}
 use mathlib.Core.Bool.{Bool, true, false, cond}
 use mathlib.Core.List.{List}
 use lib.IntN.{ℤ, pos}
@@ -14,7 +14,7 @@ use native.Mathlib.Omega.{arith}
 use Rattle.base.specs.Scans.{sumBelow}
 use Rattle.base.proofs.Scans.{sum-start, sum-next}
 use Rattle.rules.specs.declared.Segment.{Segment}
-use Rattle.rules.specs.Segments.{Segments, segments, segmentsIn, rowOf, lineAt, overtakes, stepsBackAt}
+use Rattle.rules.specs.Segments.{Segments, segments, rowOf, lineAt, overtakes, stepsBackAt}
 use Rattle.rules.specs.Facts.{SegmentsFacts}
 use Rattle.tables.specs.Accept.{BasisFacts}
 use Rattle.segments.specs.Rows.{RowIn}

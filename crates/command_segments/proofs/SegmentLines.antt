@@ -20,7 +20,7 @@ use Rattle.decimal.proofs.LeftToRight.{written-then}
 use Rattle.number_text.specs.Numbers.{decimalOf, longestNumber}
 use Rattle.command_rules.specs.Fields.{amountText, timeText, rateText, lastField}
 use Rattle.command_rules.specs.Describe.{reached, jumpText, segmentLine}
-use Rattle.command_text.specs.Longest.{longestPointed, longestField}
+use Rattle.command_text.specs.Longest.{longestField}
 use Rattle.command_ends.proofs.Parts.{written-three}
 use Rattle.command_rows.specs.Rows.{rowsBetween}
 use Rattle.command_rows.proofs.RowByRow.{rows-next}

@@ -1,5 +1,5 @@
 // The segments of a table's description, a line each with the gap or the step back behind it, put into a buffer as far as it goes.
-ghost use mathlib.Core.List.{[], _∷_, _++_};
+ghost use mathlib.Core.List.{_++_};
 ghost use Prim.Native.Nat.{_+_, _≤_, _<_};
 ghost use lib.ListN.{length};
 ghost use Rattle.rules.specs.Segments.{segments};
