@@ -1,0 +1,37 @@
+-- Whether a word begins with `--`.
+use Prim.Native.Nat.{ℕ, _≤_, _<_}
+use mathlib.Core.Path.{_≡_, refl}
+use mathlib.Core.Bool.{Bool, true, false, _&&_}
+use mathlib.Core.List.{List, [], _∷_}
+use lib.Dec.{eqb}
+use lib.ListN.{length, getD}
+use native.Mathlib.Omega.{arith}
+use borrow.Author.Tests.{eq-eqb, ne-eqb}
+use Rattle.rules.specs.Examples.{bytes}
+use Rattle.kernel_rules.specs.Lines.{same}
+use Rattle.command_words.specs.Words.{isOption}
+
+pub too-short : (w : List ℕ) → length w < 2 → false ≡ isOption w
+unfolding isOption same bytes
+too-short [] h = refl
+too-short (b ∷ []) h = and-none (eqb b 45)
+  where
+    and-none : (t : Bool) → false ≡ (t && false)
+    and-none true = refl
+    and-none false = refl
+too-short (b ∷ d ∷ w) h = absurd (omega arith)
+
+pub not-first : (w : List ℕ) → (getD w 0 0 ≡ 45 → ⊥) → false ≡ isOption w
+unfolding isOption same bytes
+not-first [] h = refl
+not-first (b ∷ w) h = rw (ne-eqb b 45 h)
+
+pub by-second : (w : List ℕ) → 2 ≤ length w → getD w 0 0 ≡ 45 → eqb (getD w 1 0) 45 ≡ isOption w
+unfolding isOption same bytes
+by-second [] l h = absurd (omega arith)
+by-second (b ∷ []) l h = absurd (omega arith)
+by-second (b ∷ d ∷ w) l h = rw (eq-eqb b 45 h) (and-true (eqb d 45))
+  where
+    and-true : (t : Bool) → t ≡ (t && true)
+    and-true true = refl
+    and-true false = refl
