@@ -23,7 +23,7 @@ pub fn file_room() -> [u8; LARGEST_FILE + 1]
 
 // Reads the file to the front of the room. A file that fills it is too large.
 pub fn read_file(path: &[u8], room: &mut [u8]) -> FileRead
-    ensures { λ r. ⌜ Below (length (now (room .entry))) r ⌝ }
+    ensures { λ r. ⌜ Below (length (now (room .exit))) r ⌝ }
 {
     let fd = os::open_read(path);
     if fd < 0 {
@@ -37,7 +37,7 @@ pub fn read_file(path: &[u8], room: &mut [u8]) -> FileRead
 }
 
 fn read_to_end(fd: i32, room: &mut [u8]) -> FileRead
-    ensures { λ r. ⌜ Below (length (now (room .entry))) r ⌝ }
+    ensures { λ r. ⌜ Below (length (now (room .exit))) r ⌝ }
 {
     let mut n = 0;
     while n < room.len() {

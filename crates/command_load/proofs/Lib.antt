@@ -1,0 +1,2 @@
+-- Laws of loading a kernel.
+pub mod Rooms

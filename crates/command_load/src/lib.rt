@@ -1,0 +1,80 @@
+// A kernel named by an argument of the program: its file read, its tables put into lent lists.
+// What is wrong with it is said on standard error.
+ghost use mathlib.Core.Path.{_≡_};
+ghost use lib.ListN.{length};
+ghost use Rattle.command_load.specs.Loaded.{loadedOf, Within};
+use command_files::FileRead;
+use command_files::read_file;
+use command_files::say;
+use kernel::read_kernel;
+use kernel_rules::Kernel;
+use kernel_rules::KernelAnswer;
+use libc::STDERR_FILENO;
+use rules::Refusal;
+
+pub enum Loaded {
+    Read(Kernel),
+    Refused,
+    Unreadable,
+}
+
+// Reads the kernel by way of the room, which has a byte more than the largest file.
+pub fn load(
+    argument: usize,
+    clock: i64,
+    room: &mut [u8],
+    moduli: &mut [u64],
+    offsets: &mut [u64],
+    starts: &mut [u64],
+    ends: &mut [u64],
+    counts: &mut [u64],
+    times: &mut [i64],
+    rates: &mut [u64],
+) -> Loaded
+    ensures { λ r. ⌜ Within (length (now (starts .entry))) (length (now (counts .entry))) r ⌝ }
+{
+    let mut path = io::buffer();
+    let n = os::arg(argument, &mut path);
+    match read_file(&path[..n], room) {
+        FileRead::Bytes(size) => settle(
+            &path[..n],
+            read_kernel(
+                &room[..size],
+                clock,
+                moduli,
+                offsets,
+                starts,
+                ends,
+                counts,
+                times,
+                rates,
+            ),
+        ),
+        FileRead::Failed => Loaded::Unreadable,
+        FileRead::TooLarge => Loaded::Unreadable,
+    }
+}
+
+// Says why the kernel with this name is refused.
+fn settle(path: &[u8], answer: KernelAnswer) -> Loaded
+    ensures { λ r. ⌜ r ≡ loadedOf answer ⌝ }
+{
+    match answer {
+        KernelAnswer::Read(kernel) => Loaded::Read(kernel),
+        KernelAnswer::Refused(refusal) => refuse(path, refusal),
+    }
+}
+
+fn refuse(path: &[u8], refusal: Refusal) -> Loaded
+    ensures { λ r. ⌜ r ≡ Loaded.Refused ⌝ }
+{
+    say_refused(path, refusal);
+    Loaded::Refused
+}
+
+// Writes a line to standard error: the name, `refused`, and why.
+pub fn say_refused(path: &[u8], refusal: Refusal) {
+    say(path, b": refused\t");
+    command_text::write_refusal(STDERR_FILENO, refusal);
+    io::write_all(STDERR_FILENO, b"\n");
+}
