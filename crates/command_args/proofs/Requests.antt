@@ -8,6 +8,7 @@ use lib.Dec.{eqb}
 use lib.ListN.{length, length-append}
 use borrow.Author.Tests.{eq-eqb, ne-eqb}
 use native.Mathlib.Omega.{arith}
+use Rattle.command_rules.specs.declared.Query.{Query}
 use Rattle.command_words.specs.declared.Command.{Command}
 use Rattle.command_args.specs.declared.Given.{Given}
 use Rattle.command_args.specs.declared.Request.{Request}
@@ -21,7 +22,7 @@ use Rattle.command_words.specs.declared.Later.{Later}
 use Rattle.command_words.specs.declared.Later.the-variants as Later
 use Rattle.command_words.specs.Words.{laterOf}
 use Rattle.command_words.specs.Clock.{clockOf}
-use Rattle.command_args.specs.Given.{takesHex, takesSeconds, plainWords, nothingGiven, withHex, withSeconds, withPlain, withWord, afterWord, askingOf, askedOf, requestOf}
+use Rattle.command_args.specs.Given.{takesHex, takesSeconds, plainWords, nothingGiven, withHex, withSeconds, withPlain, withWord, afterWord, askingOf, askedOf, requestOf, queryOf}
 use Rattle.command_args.specs.Asked.{givenBy, behindFirst, askedBy, GivenBySome, AskedBySome}
 
 -- the word w by its case
@@ -41,6 +42,10 @@ module _ (k : Command) (i : ℕ) (w : List ℕ) (l : Later) (g h : Given) (e : l
   pub plain-told : (n : ClockWord) → l ≡ Later.Plain → n ≡ clockOf w → h ≡ withPlain i n g → h ≡ afterWord k i w g
   unfolding afterWord
   plain-told n q p v = v ∙ rw (← e, q, p)
+
+-- a query that `--hex` decides
+pub hex-decides : (k l : Command) (hex : Bool) (r : Query) → k ≡ l → r ≡ queryOf l hex → r ≡ queryOf k hex
+hex-decides k l hex r e q = q ∙ rw e
 
 -- the ways to a request
 module _ (k : Command) (g : Given) where

@@ -4,6 +4,8 @@ use mathlib.Core.Bool.{Bool, true, false, not, _&&_, _||_, cond}
 use mathlib.Core.List.{List}
 use lib.IntN.{ℤ}
 use lib.Dec.{eqb}
+use Rattle.command_rules.specs.declared.Query.{Query}
+use Rattle.command_rules.specs.declared.Query.the-variants as Queries
 use Rattle.command_words.specs.declared.Command.{Command}
 use Rattle.command_words.specs.declared.Command.the-variants.{Time, Stamp, Count, Describe, Compare}
 use Rattle.command_args.specs.declared.Given.{Given}
@@ -98,3 +100,11 @@ unfoldable pub requestOf : Command → Given → Request
 requestOf k g =
     cond (g .help) Requests.Help
     (cond (not (g .wrong) && eqb (g .plain) (plainWords k)) (askedOf k g (g .last)) Requests.Usage)
+
+-- "with --hex: the line is a message in hex"; describe asks nothing of lines
+abbrev pub queryOf : Command → Bool → Query
+queryOf Time hex = cond hex Queries.Messages Queries.Time
+queryOf Stamp hex = Queries.Stamp
+queryOf Count hex = Queries.Count
+queryOf Describe hex = Queries.Stamp
+queryOf Compare hex = cond hex Queries.CompareMessages Queries.Compare

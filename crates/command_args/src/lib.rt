@@ -4,8 +4,9 @@ ghost use mathlib.Core.Bool.{_||_, not, cond};
 ghost use Prim.Native.Nat.{_+_, _≤_, min};
 ghost use lib.Dec.{eqb};
 ghost use Rattle.io.specs.Counts.{Counts};
-ghost use Rattle.command_args.specs.Given.{nothingGiven, mostPlain, takesHex, takesSeconds, plainWords, withHex, withSeconds, withHelp, withWrong, withPlain, afterWord, askingOf, requestOf};
+ghost use Rattle.command_args.specs.Given.{nothingGiven, mostPlain, takesHex, takesSeconds, plainWords, withHex, withSeconds, withHelp, withWrong, withPlain, afterWord, askingOf, requestOf, queryOf};
 ghost use Rattle.command_args.specs.Asked.{GivenBySome, AskedBySome};
+use command_rules::Query;
 use command_words::Command;
 use command_words::First;
 use command_words::Later;
@@ -294,4 +295,23 @@ fn ask(command: Command, given: Given, clock: i64) -> Request
         newer: given.second,
         clock,
     })
+}
+
+// What is asked of each line of input. `describe` reads no input, so what stands for it here is never asked.
+pub fn query_of(command: Command, hex: bool) -> Query
+    ensures { λ r. ⌜ r ≡ queryOf command hex ⌝ }
+{
+    match command {
+        Command::Time => either_query(hex, Query::Messages, Query::Time),
+        Command::Stamp => Query::Stamp,
+        Command::Count => Query::Count,
+        Command::Describe => Query::Stamp,
+        Command::Compare => either_query(hex, Query::CompareMessages, Query::Compare),
+    }
+}
+
+fn either_query(test: bool, one: Query, other: Query) -> Query
+    ensures { λ r. ⌜ r ≡ cond test one other ⌝ }
+{
+    if test { one } else { other }
 }

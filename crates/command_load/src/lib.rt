@@ -73,8 +73,15 @@ fn refuse(path: &[u8], refusal: Refusal) -> Loaded
 }
 
 // Writes a line to standard error: the name, `refused`, and why.
-pub fn say_refused(path: &[u8], refusal: Refusal) {
+fn say_refused(path: &[u8], refusal: Refusal) {
     say(path, b": refused\t");
     command_text::write_refusal(STDERR_FILENO, refusal);
     io::write_all(STDERR_FILENO, b"\n");
+}
+
+// The same of the kernel that an argument names.
+pub fn refuse_argument(argument: usize, refusal: Refusal) {
+    let mut path = io::buffer();
+    let n = os::arg(argument, &mut path);
+    say_refused(&path[..n], refusal);
 }
