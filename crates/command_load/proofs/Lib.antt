@@ -1,2 +1,3 @@
--- Laws of loading a kernel.
+-- Rooms serves the proof of loading, Fronts those who lend the lists.
 pub mod Rooms
+pub mod Fronts

@@ -1,0 +1,18 @@
+use Rattle.layouts.proofs.Units.{measured-in-limits}
+use Rattle.tables.proofs.Accepted.{table-facts}
+use borrow.Author.Needs.{needs}
+use Rattle.command_one.proofs.answer_tables.Statement.{statement}
+use Rattle.command_one.proofs.answer_tables.Tie as tie
+
+pub answer-tables-spec : {M : Type 1} → statement M
+answer-tables-spec =
+    tie.close
+    (tie.spec
+    (λ c κs. search needs)
+    (λ c κs. search (measured-in-limits, needs))
+    (λ c. search needs)
+    (λ c κs. search (table-facts, needs))
+    (λ c. search needs)
+    (λ c κs. search needs)
+    (λ c. search needs)
+    (λ c. search needs))
