@@ -1,0 +1,21 @@
+use Rattle.layouts.proofs.Units.{measured-in-limits}
+use Rattle.tables.proofs.Accepted.{table-facts}
+use borrow.Author.Needs.{needs}
+use Rattle.command_compare.proofs.accept_newer.Statement.{statement}
+use Rattle.command_compare.proofs.accept_newer.Tie as tie
+
+answer-requires : tie.Need-answer-requires
+answer-requires c κs = (search needs, search (table-facts, needs))
+
+pub accept-newer-spec : {M : Type 1} → statement M
+accept-newer-spec =
+    tie.close
+    (tie.spec
+    (λ c κs. search needs)
+    (λ c κs. search (measured-in-limits, needs))
+    (λ c. search needs)
+    answer-requires
+    (λ c. search needs)
+    (λ c κs. search needs)
+    (λ c. search needs)
+    (λ c. search needs))
