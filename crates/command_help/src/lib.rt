@@ -1,0 +1,64 @@
+// The usage and the help of the operator's command.
+use libc::STDERR_FILENO;
+use libc::STDOUT_FILENO;
+
+// Writes the usage to standard error.
+pub fn write_usage() -> bool {
+    write_lines(STDERR_FILENO)
+}
+
+// Writes the help to standard output.
+pub fn write_help() -> bool {
+    if !write_lines(STDOUT_FILENO) {
+        return false;
+    }
+    if !write_commands() {
+        return false;
+    }
+    write_words()
+}
+
+fn write_lines(fd: i32) -> bool {
+    io::write_all(
+        fd,
+        b"usage: sclk time     [--hex] [--seconds] KERNEL CLOCK
+       sclk stamp    KERNEL CLOCK
+       sclk count    [--seconds] KERNEL CLOCK
+       sclk describe [--seconds] KERNEL CLOCK
+       sclk compare  [--hex] [--seconds] OLDER NEWER CLOCK
+       sclk --help
+",
+    )
+}
+
+fn write_commands() -> bool {
+    io::write_all(
+        STDOUT_FILENO,
+        b"
+Every line of standard input has one line of standard output. Tabs separate
+its fields.
+
+  time      a stamp: its encoded count, its time, the stamp it prints as
+  stamp     an encoded count: its stamp
+  count     a time: its encoded count
+  describe  reads no standard input and prints the tables
+  compare   a stamp: its encoded count and time under two kernels
+",
+    )
+}
+
+fn write_words() -> bool {
+    io::write_all(
+        STDOUT_FILENO,
+        b"
+  KERNEL, OLDER, NEWER  clock kernel files of at most 4 MiB
+  CLOCK                 the clock's number, as -77
+  --hex                 each line is a message in hex
+  --seconds             times are in seconds instead of nanoseconds
+
+Exit status: 0 every line was answered, by compare alike under both kernels;
+1 some line was not; 2 wrong usage; 3 a kernel is refused; 4 a file, standard
+input or standard output failed.
+",
+    )
+}

@@ -1,0 +1,4 @@
+// The operator's command, run with `--help`.
+fn main() {
+    command::run();
+}
