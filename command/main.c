@@ -1,0 +1,3 @@
+int sclk_run(void);
+
+int main(void) { return sclk_run(); }
