@@ -18,7 +18,7 @@ REFUSED = [
     (b'( 4   ', b'( x   ', b"19\t-\tthe text is not of a kernel's form"),
     (b'6.0666628073000E+01', b'6.0666628073000E-14', b'20\t-\ta number that is not exact in its unit'),
     (b'16777215 91 10 8', b'16777215 91 10 0', b'1\t-\tthe layout breaks its rules'),
-    (b'7.2800001000000E+07', b'9.2800001000000E+07', b'2\t2\tthe partitions break their rules'),
+    (b'7.2800001000000E+07', b'1.4000000000000E+08', b'2\t2\tthe partitions break their rules'),
     (b'1.2365600000000E+06', b'1.2365520000000E+06', b'3\t3\tthe segments break their rules'),
 ]
 
@@ -106,7 +106,7 @@ def refusals(sclk, text):
     expect(sclk.run('compare', sclk.surveyor, 'none', '77', given=GIVEN), 3, b'', refused(sclk.surveyor, REFUSED[2][2]))
     # A small table by hand.
     sclk.file('small', table(1, [100, 10], [(0, 500), (200, 900)], [(0, -1000, 25_000), (600, 1000, 30_000)]))
-    expect(sclk.run('time', 'small', '1', given=b'1/0\n2/20\n'), 0, b'0\t-1000\t1/0.0\n500\t250\t2/20.0\n', b'')
+    expect(sclk.run('time', 'small', '1', given=b'1/0\n2/20\n'), 0, b'0\t-1000\t1/00.0\n500\t250\t2/20.0\n', b'')
 
 
 def test(sclk):

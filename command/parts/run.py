@@ -24,10 +24,10 @@ def encoded(words):
 
 
 class Sclk:
-    """The command under test, `program`, and the one that it is compared with, `second`, each as a list of words. Both are run in `folder`."""
+    """The command under test, as users start it and as a program, and the program that it is compared with. All are run in `folder`."""
 
-    def __init__(self, root, folder, program, second, seed):
-        self.root, self.folder, self.program, self.second, self.seed = root, folder, program, second, seed
+    def __init__(self, root, folder, started, program, second, seed):
+        self.folder, self.started, self.program, self.second, self.seed = folder, [started], [program], [second], seed
         self.runs = 0
         self.galileo = os.path.join(root, KERNELS, 'galileo.tsc')
         self.surveyor = os.path.join(root, KERNELS, 'mars_global_surveyor.tsc')

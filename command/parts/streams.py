@@ -50,7 +50,7 @@ def closed(sclk):
 def slowly(sclk, words, pieces):
     """A run whose input comes in these pieces, each once the one before it was taken."""
     pipe = subprocess.PIPE
-    process = sclk.start(sclk.program, words, stdin=pipe, stdout=subprocess.DEVNULL if False else pipe, stderr=pipe)
+    process = sclk.start(sclk.program, words, stdin=pipe, stdout=pipe, stderr=pipe)
     for piece in pieces:
         os.write(process.stdin.fileno(), piece)
     output, errors = process.communicate()

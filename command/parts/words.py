@@ -126,7 +126,12 @@ def test(sclk):
         if name != '--hex':
             expect(sclk.run('time', name, '77', given=GIVEN), wanted.status, wanted.output, b'')
 
-    # From another folder, and by a link.
+    # As users start it: from another folder, and by a link. Words and input reach the program as they are.
     link = os.path.join(sclk.folder, 'linked')
-    os.symlink(sclk.program[0], link)
-    expect(sclk.run('time', 'time', '77', given=GIVEN, program=[link]), wanted.status, wanted.output, b'')
+    os.symlink(sclk.started[0], link)
+    for started in (sclk.started, [link]):
+        expect(sclk.run('time', 'time', '77', given=GIVEN, program=started), wanted.status, wanted.output, b'')
+        expect(sclk.run('time', 'with blanks', '--seconds', '77', given=GIVEN, program=started), wanted.status, None, b'')
+        expect(sclk.run('time', '', '77', given=GIVEN, program=started), 4, b'', b'sclk: : No such file or directory\n')
+        expect(sclk.run(program=started), 2, b'', sclk.usage)
+        expect(sclk.run('--help', program=started), 0, sclk.help, b'')
