@@ -1,4 +1,5 @@
 // The program of the operator's command: what its words ask, and its exit status.
+ghost use Rattle.command_status.specs.Status.{ExitStatus};
 use command_args::Asking;
 use command_args::Request;
 use command_args::asked;
@@ -13,7 +14,9 @@ use command_status::code;
 use command_status::conclude;
 use command_words::Command;
 
-pub fn run() -> i32 {
+pub fn run() -> i32
+    ensures { λ r. ⌜ ExitStatus r ⌝ }
+{
     code(status())
 }
 

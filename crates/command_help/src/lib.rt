@@ -42,7 +42,8 @@ its fields.
   stamp     an encoded count: its stamp
   count     a time: its encoded count
   describe  reads no standard input and prints the tables
-  compare   a stamp: its encoded count and time under two kernels
+  compare   whether NEWER succeeds OLDER and up to where the two agree, then
+            a stamp: its encoded count and time under both
 ",
     )
 }

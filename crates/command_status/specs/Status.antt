@@ -1,4 +1,5 @@
 -- "Exit status: 0 every line was answered ..; 1 some line was refused ..; 2 usage; 3 a kernel is refused; 4 a file that cannot be read .., standard input that cannot be read or standard output that cannot be written"
+use mathlib.Core.Path.{_≡_}
 use lib.IntN.{ℤ, pos}
 use Rattle.command_lines.specs.declared.Ended.{Ended}
 use Rattle.command_lines.specs.declared.Ended.the-variants as Ends
@@ -17,3 +18,8 @@ statusOf Ends.Fine = Statuses.Fine
 statusOf Ends.Refused = Statuses.Refused
 statusOf Ends.InputFailed = Statuses.System
 statusOf Ends.OutputFailed = Statuses.System
+
+-- one of these and no other
+pub record ExitStatus (z : ℤ) : Type 0 where
+  pub status : Status
+  pub same : z ≡ statusCode status
