@@ -7,11 +7,11 @@ use command_compare::answer_two;
 use command_files::file_room;
 use command_help::write_help;
 use command_help::write_usage;
-use command_lines::Ended;
 use command_one::answer_one;
 use command_status::Status;
 use command_status::code;
 use command_status::conclude;
+use command_stream::Ended;
 use command_words::Command;
 
 pub fn run() -> i32

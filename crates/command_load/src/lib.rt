@@ -10,6 +10,7 @@ use kernel::read_kernel;
 use kernel_rules::Kernel;
 use kernel_rules::KernelAnswer;
 use libc::STDERR_FILENO;
+use refusal_text::put_refusal;
 use rules::Refusal;
 
 pub enum Loaded {
@@ -75,8 +76,9 @@ fn refuse(path: &[u8], refusal: Refusal) -> Loaded
 // Writes a line to standard error: the name, `refused`, and why.
 fn say_refused(path: &[u8], refusal: Refusal) {
     say(path, b": refused\t");
-    command_text::write_refusal(STDERR_FILENO, refusal);
-    io::write_all(STDERR_FILENO, b"\n");
+    let mut buffer = io::buffer();
+    let n = put_refusal(&mut buffer, 0, refusal, b'\n');
+    io::write_all(STDERR_FILENO, &buffer[..n]);
 }
 
 // The same of the kernel that an argument names.

@@ -5,12 +5,13 @@ ghost use Rattle.tables.specs.Accept.{TableFacts};
 use command_args::Asking;
 use command_args::query_of;
 use command_describe::describe;
-use command_lines::answer_input;
 use command_load::Loaded;
 use command_load::load;
 use command_load::refuse_argument;
 use command_status::Status;
 use command_status::conclude;
+use command_stream::Ended;
+use command_stream::answer_input;
 use command_words::Command;
 use layouts::limits::MOST_PARTITIONS;
 use layouts::limits::MOST_SEGMENTS;
@@ -113,7 +114,7 @@ fn answer(
 {
     let command = asking.command;
     if is_describe(command) {
-        return conclude(describe(
+        return conclude(described(describe(
             asking.clock,
             system,
             asking.seconds,
@@ -124,7 +125,7 @@ fn answer(
             counts,
             times,
             rates,
-        ));
+        )));
     }
     conclude(answer_input(
         query_of(command, asking.hex),
@@ -154,4 +155,12 @@ fn is_describe(command: Command) -> bool {
         Command::Describe => true,
         Command::Compare => false,
     }
+}
+
+// How a description ended, by whether all was written.
+fn described(written: bool) -> Ended {
+    if written {
+        return Ended::Fine;
+    }
+    Ended::OutputFailed
 }

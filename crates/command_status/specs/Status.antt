@@ -1,8 +1,8 @@
 -- "Exit status: 0 every line was answered ..; 1 some line was refused ..; 2 usage; 3 a kernel is refused; 4 a file that cannot be read .., standard input that cannot be read or standard output that cannot be written"
 use mathlib.Core.Path.{_≡_}
 use lib.IntN.{ℤ, pos}
-use Rattle.command_lines.specs.declared.Ended.{Ended}
-use Rattle.command_lines.specs.declared.Ended.the-variants as Ends
+use Rattle.command_stream.specs.declared.Ended.{Ended}
+use Rattle.command_stream.specs.declared.Ended.the-variants as Ends
 use Rattle.command_status.specs.declared.Status.{Status}
 use Rattle.command_status.specs.declared.Status.the-variants as Statuses
 

@@ -2,7 +2,7 @@
 ghost use mathlib.Core.Path.{_≡_};
 ghost use Rattle.command_status.specs.Status.{statusCode, statusOf};
 use command_files::complain;
-use command_lines::Ended;
+use command_stream::Ended;
 
 pub enum Status {
     Fine,
