@@ -53,7 +53,14 @@ pub fn refusal(out: &mut [u8], at: usize, refused: Refusal) -> usize
     ensures { λ r. ⌜ Put at (now (out .entry)) r ⌝ }
 {
     let place = text(out, at, b"refused ");
-    let place = number(out, place, refused.number);
+    refused_number(out, place, refused)
+}
+
+// A refusal's number, and the place where there is one.
+pub fn refused_number(out: &mut [u8], at: usize, refused: Refusal) -> usize
+    ensures { λ r. ⌜ Put at (now (out .entry)) r ⌝ }
+{
+    let place = number(out, at, refused.number);
     let found = refused.place;
     match found {
         Place::None => place,
