@@ -10,19 +10,18 @@ use raw_question::CounterNumbers;
 use script_chunk::answer_last;
 use script_chunk::answer_lines;
 use script_line::LONGEST_LINE;
-use script_names::Numbers;
+use script_tables::Layouts;
 use script_tables::Lists;
-use script_tables::MOST_ENTRIES;
 use script_tables::Sizes;
-use script_tables::TimeList;
+use script_tables::TimeLists;
 use walk_question::TAIL_BUFFER;
 use walk_question::TailBuffer;
 
 pub fn run() {
-    let mut layout = [0u64; script_names::MOST_NUMBERS];
-    let mut sizes = [0usize; script_tables::LIST_COUNT];
+    let mut layout = [0u64; script_tables::LAYOUTS_ROOM];
+    let mut sizes = [0usize; script_tables::SIZES_ROOM];
     let mut lists = [0u64; script_tables::LISTS_ROOM];
-    let mut times = [0i64; MOST_ENTRIES];
+    let mut times = [0i64; script_tables::TIMES_ROOM];
     let mut counter = [0u64; raw_question::COUNTER_NUMBERS];
     let mut tail = [0u8; TAIL_BUFFER];
     let mut line = line_room();
@@ -58,10 +57,10 @@ fn line_room() -> [u8; LONGEST_LINE + 1]
 // asked for. How many bytes of a last line without byte 10 are kept.
 fn answer_input(
     line: &mut [u8],
-    layout: &mut Numbers,
+    layout: &mut Layouts,
     sizes: &mut Sizes,
     lists: &mut Lists,
-    times: &mut TimeList,
+    times: &mut TimeLists,
     counter: &mut CounterNumbers,
     tail: &mut TailBuffer,
 ) -> usize

@@ -9,10 +9,10 @@ ghost use Rattle.script_chunk.specs.Room.{lineBuffer};
 use lines::LineStep;
 use raw_question::CounterNumbers;
 use script_line::answer_line;
-use script_names::Numbers;
+use script_tables::Layouts;
 use script_tables::Lists;
 use script_tables::Sizes;
-use script_tables::TimeList;
+use script_tables::TimeLists;
 use walk_question::TailBuffer;
 
 // An answer has at most seven lists of 40 numbers of 20 digits, and six words before them.
@@ -29,10 +29,10 @@ pub fn answer_lines(
     chunk: &[u8],
     line: &mut [u8],
     kept: usize,
-    layout: &mut Numbers,
+    layout: &mut Layouts,
     sizes: &mut Sizes,
     lists: &mut Lists,
-    times: &mut TimeList,
+    times: &mut TimeLists,
     counter: &mut CounterNumbers,
     tail: &mut TailBuffer,
 ) -> usize
@@ -74,10 +74,10 @@ pub fn answer_lines(
 fn settle(
     step: LineStep,
     line: &[u8],
-    layout: &mut Numbers,
+    layout: &mut Layouts,
     sizes: &mut Sizes,
     lists: &mut Lists,
-    times: &mut TimeList,
+    times: &mut TimeLists,
     counter: &mut CounterNumbers,
     tail: &mut TailBuffer,
     out: &mut [u8],
@@ -114,10 +114,10 @@ fn settle(
 // Answers a last line without byte 10.
 pub fn answer_last(
     line: &[u8],
-    layout: &mut Numbers,
+    layout: &mut Layouts,
     sizes: &mut Sizes,
     lists: &mut Lists,
-    times: &mut TimeList,
+    times: &mut TimeLists,
     counter: &mut CounterNumbers,
     tail: &mut TailBuffer,
 )

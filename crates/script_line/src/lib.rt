@@ -12,12 +12,13 @@ use script_names::RawLine;
 use script_names::TableLine;
 use script_tables::COUNTS;
 use script_tables::ENDS;
+use script_tables::Layouts;
 use script_tables::Lists;
 use script_tables::RATES;
 use script_tables::STARTS;
 use script_tables::Sizes;
 use script_tables::Taken;
-use script_tables::TimeList;
+use script_tables::TimeLists;
 use walk_question::TailBuffer;
 
 pub const LONGEST_LINE: usize = 140_000;
@@ -25,10 +26,10 @@ pub const LONGEST_LINE: usize = 140_000;
 // Changes what the script keeps as the line says, puts its answer into the output, and answers the place after it.
 pub fn answer_line(
     line: &[u8],
-    layout: &mut Numbers,
+    layout: &mut Layouts,
     sizes: &mut Sizes,
     lists: &mut Lists,
-    times: &mut TimeList,
+    times: &mut TimeLists,
     counter: &mut CounterNumbers,
     tail: &mut TailBuffer,
     out: &mut [u8],
@@ -82,6 +83,15 @@ pub fn answer_line(
             place,
         ),
         Line::Walk => walk_question::walk(&numbers, line, rest, tail, out, place),
+        Line::Tables(question) => tables_question::answer(
+            question,
+            layout,
+            sizes,
+            lists,
+            times,
+            out,
+            place,
+        ),
         Line::PassedOver => place,
         Line::Bad => answers::put_bad(out, place),
     }
@@ -90,10 +100,10 @@ pub fn answer_line(
 fn change_tables(
     line: TableLine,
     numbers: &Numbers,
-    layout: &mut Numbers,
+    layout: &mut Layouts,
     sizes: &mut Sizes,
     lists: &mut Lists,
-    times: &mut TimeList,
+    times: &mut TimeLists,
     out: &mut [u8],
     place: usize,
 ) -> usize
@@ -112,10 +122,10 @@ fn ask(
     numbers: &Numbers,
     line: &[u8],
     rest: usize,
-    layout: &Numbers,
+    layout: &Layouts,
     sizes: &Sizes,
     lists: &Lists,
-    times: &TimeList,
+    times: &TimeLists,
     out: &mut [u8],
     place: usize,
 ) -> usize
@@ -142,7 +152,7 @@ fn ask(
 fn ask_counter(
     line: RawLine,
     numbers: &Numbers,
-    layout: &Numbers,
+    layout: &Layouts,
     sizes: &Sizes,
     lists: &Lists,
     counter: &mut CounterNumbers,
@@ -169,7 +179,7 @@ fn ask_packet(
     numbers: &Numbers,
     line: &[u8],
     rest: usize,
-    layout: &Numbers,
+    layout: &Layouts,
     sizes: &Sizes,
     lists: &Lists,
     out: &mut [u8],

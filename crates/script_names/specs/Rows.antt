@@ -10,7 +10,7 @@ use Rattle.script_names.specs.declared.Named.the-variants as Named
 
 -- how many lines have a name
 abbrev pub lineCount : ℕ
-lineCount = 27
+lineCount = 30
 
 -- the numbers of the longest line
 abbrev pub mostNumbers : ℕ

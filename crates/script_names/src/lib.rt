@@ -20,9 +20,10 @@ pub enum TableLine {
     Count,
     Time,
     Rate,
+    Older,
 }
 
-// A line that has an answer over the tables.
+// A line that has an answer over the script's table.
 pub enum Question {
     ReadText,
     ReadStamp,
@@ -45,6 +46,12 @@ pub enum RawLine {
     Microseconds,
 }
 
+// A question about the older table and the script's.
+pub enum TablesQuestion {
+    Succeeds,
+    Horizon,
+}
+
 // A question about one packet.
 pub enum PacketQuestion {
     Read,
@@ -58,6 +65,7 @@ pub enum Line {
     Raw(RawLine),
     Packet(PacketQuestion),
     Walk,
+    Tables(TablesQuestion),
     PassedOver,
     Bad,
 }
@@ -76,7 +84,7 @@ pub type Numbers = [u64; MOST_NUMBERS];
 // Room for a name and a blank.
 const NAME_ROOM: usize = 13;
 
-const LINES: usize = 27;
+const LINES: usize = 30;
 
 type Row = [u8; NAME_ROOM + MOST_NUMBERS];
 
@@ -119,6 +127,9 @@ const ROWS: [Row; LINES] = [
     *b"read-packet  h                     ",
     *b"write-packet bsbsbbnblh            ",
     *b"walk         rnh                   ",
+    *b"older                              ",
+    *b"succeeds                           ",
+    *b"horizon                            ",
 ];
 
 fn line_of(row: usize) -> Line {
@@ -150,6 +161,9 @@ fn line_of(row: usize) -> Line {
         24 => Line::Packet(PacketQuestion::Read),
         25 => Line::Packet(PacketQuestion::Write),
         26 => Line::Walk,
+        27 => Line::Table(TableLine::Older),
+        28 => Line::Tables(TablesQuestion::Succeeds),
+        29 => Line::Tables(TablesQuestion::Horizon),
         _ => Line::Bad,
     }
 }

@@ -26,18 +26,26 @@ fit-set sizes list size h f = record { each = set-each sizes list size h (f .eac
 pub fit-next : (sizes : List ℕ) (list size : ℕ) → size < mostEntries → Fit sizes → Fit (set sizes list (size + 1))
 fit-next sizes list size h f = fit-set sizes list (size + 1) (omega arith) f
 
-pub fit-none : Fit (0 ∷ 0 ∷ 0 ∷ 0 ∷ 0 ∷ [])
+pub fit-copy : (sizes : List ℕ) (from to : ℕ) → Fit sizes → Fit (set sizes to (getD sizes from 0))
+fit-copy sizes from to f = fit-set sizes to (getD sizes from 0) (f .each from) f
+
+pub fit-none : Fit (0 ∷ 0 ∷ 0 ∷ 0 ∷ 0 ∷ 0 ∷ 0 ∷ 0 ∷ 0 ∷ 0 ∷ [])
 fit-none = record { each = none }
   where
-    none : (i : ℕ) → getD (0 ∷ 0 ∷ 0 ∷ 0 ∷ 0 ∷ []) i 0 ≤ mostEntries
+    none : (i : ℕ) → getD (0 ∷ 0 ∷ 0 ∷ 0 ∷ 0 ∷ 0 ∷ 0 ∷ 0 ∷ 0 ∷ 0 ∷ []) i 0 ≤ mostEntries
     none zero = omega arith
     none (suc zero) = omega arith
     none (suc (suc zero)) = omega arith
     none (suc (suc (suc zero))) = omega arith
     none (suc (suc (suc (suc zero)))) = omega arith
-    none (suc (suc (suc (suc (suc i))))) = omega arith
+    none (suc (suc (suc (suc (suc zero))))) = omega arith
+    none (suc (suc (suc (suc (suc (suc zero)))))) = omega arith
+    none (suc (suc (suc (suc (suc (suc (suc zero))))))) = omega arith
+    none (suc (suc (suc (suc (suc (suc (suc (suc zero)))))))) = omega arith
+    none (suc (suc (suc (suc (suc (suc (suc (suc (suc zero))))))))) = omega arith
+    none (suc (suc (suc (suc (suc (suc (suc (suc (suc (suc i)))))))))) = omega arith
 
-pub entries-are : (l : List ℕ) (from size : ℕ) → take (from + size - from) (drop from l) ≡ take size (drop from l)
+pub entries-are : {A : Type 0} (l : List A) (from size : ℕ) → take (from + size - from) (drop from l) ≡ take size (drop from l)
 entries-are l from size = let e : from + size - from ≡ size = omega arith in rw e
 
 pub from-first : {A : Type 0} (l : List A) (size : ℕ) → take (size - 0) (drop 0 l) ≡ take size l

@@ -1,10 +1,13 @@
-// The tables: the layout as the numbers of its line, and five lists, each with how many entries it holds.
+// The tables: the layout as the numbers of its line, and five lists, each with how many entries it holds. Behind them stands the older table, likewise.
 ghost use Prim.Native.Nat.{_*_, _+_, _<_, _≤_};
 ghost use mathlib.Core.Path.{_≡_};
 ghost use lib.ListN.{getD, take, drop};
+ghost use Rattle.script_names.specs.Rows.{mostNumbers};
+ghost use Rattle.script_tables.specs.declared.Taken.the-variants.{Changed};
 ghost use Rattle.script_tables.specs.Changes.{Keeps};
 ghost use Rattle.script_tables.specs.Sizes.{Fit, mostEntries};
 use rules::Layout;
+use script_names::MOST_NUMBERS;
 use script_names::Numbers;
 use script_names::TableLine;
 use script_words::numbers::byte_of;
@@ -12,21 +15,36 @@ use script_words::numbers::byte_of;
 // The most entries of a list.
 pub const MOST_ENTRIES: usize = 10001;
 
-// The lists, four of unsigned numbers and one of times.
-pub const LIST_COUNT: usize = 5;
+// The script's table and the older one.
+const TABLES: usize = 2;
 
-// Room for the four.
-pub const LISTS_ROOM: usize = (LIST_COUNT - 1) * MOST_ENTRIES;
+// The lists of one table, four of unsigned numbers and one of times.
+const LIST_COUNT: usize = 5;
 
-// Starts, ends, counts and rates, one list behind the other.
+// A layout's numbers, and behind them the older table's.
+pub const LAYOUTS_ROOM: usize = TABLES * MOST_NUMBERS;
+
+pub type Layouts = [u64; LAYOUTS_ROOM];
+
+// Room for the four lists of one table, and for those of both.
+const TABLE_ROOM: usize = (LIST_COUNT - 1) * MOST_ENTRIES;
+
+pub const LISTS_ROOM: usize = TABLES * TABLE_ROOM;
+
+// Starts, ends, counts and rates, one list behind the other, then the older table's.
 pub type Lists = [u64; LISTS_ROOM];
 
-pub type TimeList = [i64; MOST_ENTRIES];
+pub const TIMES_ROOM: usize = TABLES * MOST_ENTRIES;
+
+// Times, and behind them the older table's.
+pub type TimeLists = [i64; TIMES_ROOM];
+
+pub const SIZES_ROOM: usize = TABLES * LIST_COUNT;
 
 // How many entries each list holds.
-pub type Sizes = [usize; LIST_COUNT];
+pub type Sizes = [usize; SIZES_ROOM];
 
-// The lists' places among the sizes, the first four also their places behind one another.
+// The lists' places among the sizes, all but the times' also their places behind one another.
 pub const STARTS: usize = 0;
 
 pub const ENDS: usize = 1;
@@ -35,11 +53,19 @@ pub const COUNTS: usize = 2;
 
 pub const RATES: usize = 3;
 
-pub const TIMES: usize = 4;
+pub const OLDER_STARTS: usize = 4;
 
-// The places of a layout's numbers in its line.
-const FIELDS: usize = 0;
+pub const OLDER_ENDS: usize = 5;
 
+pub const OLDER_COUNTS: usize = 6;
+
+pub const OLDER_RATES: usize = 7;
+
+pub const TIMES: usize = 8;
+
+pub const OLDER_TIMES: usize = 9;
+
+// The places of a layout's numbers behind the number of fields.
 const DELIMITER: usize = 1;
 
 const MODULI: usize = 2;
@@ -55,10 +81,10 @@ pub enum Taken {
 pub fn take_line(
     line: TableLine,
     numbers: &Numbers,
-    layout: &mut Numbers,
+    layout: &mut Layouts,
     sizes: &mut Sizes,
     lists: &mut Lists,
-    times: &mut TimeList,
+    times: &mut TimeLists,
 ) -> Taken
     requires { ⌜ Fit (now sizes) ⌝ }
     ensures { λ r. ⌜ Fit (now (sizes .exit)) ⌝ }
@@ -76,13 +102,18 @@ pub fn take_line(
         TableLine::Count => add(numbers[0], sizes, COUNTS, lists),
         TableLine::Time => add_time(numbers[0], sizes, times),
         TableLine::Rate => add(numbers[0], sizes, RATES, lists),
+        TableLine::Older => keep_older(layout, sizes, lists, times),
     }
 }
 
-fn set_layout(numbers: &Numbers, layout: &mut Numbers) -> Taken
+fn set_layout(numbers: &Numbers, layout: &mut Layouts) -> Taken
     ensures { λ r. ⌜ Keeps r (now (layout .entry)) (now (layout .exit)) ⌝ }
 {
-    *layout = *numbers;
+    let mut i = 0;
+    while i < MOST_NUMBERS {
+        layout[i] = numbers[i];
+        i += 1;
+    }
     Taken::Changed
 }
 
@@ -108,7 +139,7 @@ fn clear_segments(sizes: &mut Sizes) -> Taken
 }
 
 fn add(number: u64, sizes: &mut Sizes, list: usize, lists: &mut Lists) -> Taken
-    requires { ⌜ list < 4 ⌝ }
+    requires { ⌜ list < 8 ⌝ }
     requires { ⌜ Fit (now sizes) ⌝ }
     ensures { λ r. ⌜ Fit (now (sizes .exit)) ⌝ }
     ensures { λ r. ⌜ Keeps r (now (sizes .entry)) (now (sizes .exit)) ⌝ }
@@ -123,14 +154,14 @@ fn add(number: u64, sizes: &mut Sizes, list: usize, lists: &mut Lists) -> Taken
     Taken::Changed
 }
 
-fn add_time(ordinal: u64, sizes: &mut Sizes, times: &mut TimeList) -> Taken
+fn add_time(ordinal: u64, sizes: &mut Sizes, times: &mut TimeLists) -> Taken
     requires { ⌜ Fit (now sizes) ⌝ }
     ensures { λ r. ⌜ Fit (now (sizes .exit)) ⌝ }
     ensures { λ r. ⌜ Keeps r (now (sizes .entry)) (now (sizes .exit)) ⌝ }
     ensures { λ r. ⌜ Keeps r (now (times .entry)) (now (times .exit)) ⌝ }
 {
     let size = sizes[TIMES];
-    if times.len() <= size {
+    if times.len() / TABLES <= size {
         return Taken::NoRoom;
     }
     times[size] = signed::from_ordinal(ordinal);
@@ -138,25 +169,94 @@ fn add_time(ordinal: u64, sizes: &mut Sizes, times: &mut TimeList) -> Taken
     Taken::Changed
 }
 
-// The layout that its line's numbers say.
-pub fn layout_of(numbers: &Numbers) -> Layout
-    ensures { λ r. ⌜ r .n ≡ getD (now (numbers .entry)) 0 0 ⌝ }
+// Copies the script's table as the older one, whatever it is.
+fn keep_older(
+    layout: &mut Layouts,
+    sizes: &mut Sizes,
+    lists: &mut Lists,
+    times: &mut TimeLists,
+) -> Taken
+    requires { ⌜ Fit (now sizes) ⌝ }
+    ensures { λ r. ⌜ r ≡ Changed ⌝ }
+    ensures { λ r. ⌜ Fit (now (sizes .exit)) ⌝ }
 {
-    Layout {
-        n: numbers[FIELDS] as usize,
-        moduli: slots(numbers, MODULI),
-        offsets: slots(numbers, OFFSETS),
-        delimiter: byte_of(numbers[DELIMITER]),
+    copy_layout(layout);
+    copy_size(sizes, STARTS, OLDER_STARTS);
+    copy_size(sizes, ENDS, OLDER_ENDS);
+    copy_size(sizes, COUNTS, OLDER_COUNTS);
+    copy_size(sizes, RATES, OLDER_RATES);
+    copy_size(sizes, TIMES, OLDER_TIMES);
+    copy_lists(lists);
+    copy_times(times);
+    Taken::Changed
+}
+
+fn copy_size(sizes: &mut Sizes, from: usize, to: usize)
+    requires { ⌜ from < 10 ⌝ }
+    requires { ⌜ to < 10 ⌝ }
+    requires { ⌜ Fit (now sizes) ⌝ }
+    ensures { λ r. ⌜ Fit (now (sizes .exit)) ⌝ }
+{
+    sizes[to] = sizes[from];
+}
+
+fn copy_layout(layouts: &mut Layouts) {
+    let mut i = 0;
+    while i < MOST_NUMBERS {
+        layouts[MOST_NUMBERS + i] = layouts[i];
+        i += 1;
     }
 }
 
-fn slots(numbers: &Numbers, from: usize) -> [u64; Layout::MOST_FIELDS]
-    requires { ⌜ from ≤ 12 ⌝ }
+fn copy_lists(lists: &mut Lists) {
+    let mut i = 0;
+    while i < TABLE_ROOM {
+        lists[TABLE_ROOM + i] = lists[i];
+        i += 1;
+    }
+}
+
+fn copy_times(times: &mut TimeLists) {
+    let mut i = 0;
+    while i < MOST_ENTRIES {
+        times[MOST_ENTRIES + i] = times[i];
+        i += 1;
+    }
+}
+
+// The script's layout, as its line's numbers say.
+pub fn layout_of(layouts: &Layouts) -> Layout
+    ensures { λ r. ⌜ r .n ≡ getD (now (layouts .entry)) 0 0 ⌝ }
+{
+    layout_at(layouts, 0)
+}
+
+pub fn older_layout_of(layouts: &Layouts) -> Layout
+    ensures { λ r. ⌜ r .n ≡ getD (now (layouts .entry)) mostNumbers 0 ⌝ }
+{
+    layout_at(layouts, MOST_NUMBERS)
+}
+
+// The layout whose numbers begin at a place.
+fn layout_at(layouts: &Layouts, at: usize) -> Layout
+    requires { ⌜ at ≤ mostNumbers ⌝ }
+    ensures { λ r. ⌜ r .n ≡ getD (now (layouts .entry)) at 0 ⌝ }
+{
+    Layout {
+        n: layouts[at] as usize,
+        moduli: slots(layouts, at + MODULI),
+        offsets: slots(layouts, at + OFFSETS),
+        delimiter: byte_of(layouts[at + DELIMITER]),
+    }
+}
+
+fn slots(layouts: &Layouts, from: usize) -> [u64; Layout::MOST_FIELDS]
+    requires { ⌜ from ≤ 34 ⌝ }
 {
     let mut held = [0u64; Layout::MOST_FIELDS];
     let mut i = 0;
     while i < Layout::MOST_FIELDS {
-        held[i] = numbers[from + i];
+        held[i] = layouts[from + i];
         i += 1;
     }
     held
@@ -164,7 +264,7 @@ fn slots(numbers: &Numbers, from: usize) -> [u64; Layout::MOST_FIELDS]
 
 // A list's entries.
 pub fn entries<'a, 'b>(lists: &'a Lists, list: usize, sizes: &'b Sizes) -> &'a [u64]
-    requires { ⌜ list < 4 ⌝ }
+    requires { ⌜ list < 8 ⌝ }
     requires { ⌜ Fit (now sizes) ⌝ }
     ensures { λ r. ⌜ now r ≡ take (getD (now (sizes .entry)) list 0) (drop (list * mostEntries) (now (lists .entry))) ⌝ }
 {
@@ -174,11 +274,21 @@ pub fn entries<'a, 'b>(lists: &'a Lists, list: usize, sizes: &'b Sizes) -> &'a [
     &all[from..end]
 }
 
-pub fn time_entries<'a, 'b>(times: &'a TimeList, sizes: &'b Sizes) -> &'a [i64]
+// The times' entries.
+pub fn time_entries<'a, 'b>(times: &'a TimeLists, sizes: &'b Sizes) -> &'a [i64]
     requires { ⌜ Fit (now sizes) ⌝ }
-    ensures { λ r. ⌜ now r ≡ take (getD (now (sizes .entry)) 4 0) (now (times .entry)) ⌝ }
+    ensures { λ r. ⌜ now r ≡ take (getD (now (sizes .entry)) 8 0) (now (times .entry)) ⌝ }
 {
     let all = &times[..];
     let end = sizes[TIMES];
     &all[0..end]
+}
+
+pub fn older_time_entries<'a, 'b>(times: &'a TimeLists, sizes: &'b Sizes) -> &'a [i64]
+    requires { ⌜ Fit (now sizes) ⌝ }
+    ensures { λ r. ⌜ now r ≡ take (getD (now (sizes .entry)) 9 0) (drop mostEntries (now (times .entry))) ⌝ }
+{
+    let all = &times[..];
+    let end = MOST_ENTRIES + sizes[OLDER_TIMES];
+    &all[MOST_ENTRIES..end]
 }

@@ -1,4 +1,4 @@
-use Rattle.script_tables.proofs.Changes.{not-reached}
+use Rattle.script_tables.proofs.Changes.{not-reached, any-change}
 use borrow.Author.Needs.{needs}
 use Rattle.script_tables.proofs.take_line.Statement.{statement}
 use Rattle.script_tables.proofs.take_line.Tie as tie
@@ -27,6 +27,9 @@ returns-7 c = (search needs, (search (not-reached, needs), (search (not-reached,
 returns-8 : tie.Need-returns-8
 returns-8 c = (search needs, (search (not-reached, needs), (search (not-reached, needs), (search (not-reached, needs), search (not-reached, needs)))))
 
+returns-9 : tie.Need-returns-9
+returns-9 c = (search needs, (search (any-change, needs), (search (any-change, needs), (search (any-change, needs), search (any-change, needs)))))
+
 pub take-line-spec : {M : Type 1} → statement M
 take-line-spec =
     tie.close
@@ -52,6 +55,8 @@ take-line-spec =
     (λ c. search needs)
     (λ c. search needs)
     (λ c κs. search needs)
+    (λ c. search needs)
+    (λ c κs. search needs)
     returns
     returns-2
     returns-3
@@ -59,4 +64,5 @@ take-line-spec =
     returns-5
     returns-6
     returns-7
-    returns-8)
+    returns-8
+    returns-9)

@@ -5,7 +5,7 @@ use Rattle.script_tables.proofs.time_entries.Statement.{statement}
 use Rattle.script_tables.proofs.time_entries.Tie as tie
 
 part-result-end : tie.Need-part-result-end
-part-result-end c = omega (arith, c .before .before .pre .each 4)
+part-result-end c = omega (arith, c .before .before .pre .each 8)
 
 pub time-entries-spec : {M : Type 1} → statement M
 time-entries-spec =
