@@ -1,6 +1,11 @@
 // The questions of a script about two tables, the older and the script's own. Each function puts its answer at `place`, and answers the place after it.
+ghost use mathlib.Core.Path.{_≡_};
 ghost use Rattle.put.specs.Places.{Put};
 ghost use Rattle.script_tables.specs.Sizes.{Fit};
+ghost use Rattle.succession_rules.specs.Succession.{succession, successionAnswer};
+ghost use Rattle.succession_rules.specs.Horizon.{horizonOf, horizonAnswer};
+ghost use Rattle.tables_question.specs.Kept.{olderTable, scriptTable};
+use rules::Layout;
 use rules::Refusal;
 use script_names::TablesQuestion;
 use script_tables::COUNTS;
@@ -39,27 +44,36 @@ pub fn answer(
 {
     match question {
         TablesQuestion::Succeeds => {
-            let answer = succeeds(layouts, sizes, lists, times);
+            let older = older_layout_of(layouts);
+            let answer = succeeds(older, layout_of(layouts), sizes, lists, times);
             put_succession(out, place, answer)
         }
         TablesQuestion::Horizon => {
-            let answer = horizon(layouts, sizes, lists, times);
+            let older = older_layout_of(layouts);
+            let answer = horizon(older, layout_of(layouts), sizes, lists, times);
             put_horizon(out, place, answer)
         }
     }
 }
 
-fn succeeds(layouts: &Layouts, sizes: &Sizes, lists: &Lists, times: &TimeLists) -> SuccessionAnswer
+fn succeeds(
+    older: Layout,
+    newer: Layout,
+    sizes: &Sizes,
+    lists: &Lists,
+    times: &TimeLists,
+) -> SuccessionAnswer
     requires { ⌜ Fit (now sizes) ⌝ }
+    ensures { λ r. ⌜ successionAnswer r ≡ succession (olderTable older (now (sizes .entry)) (now (lists .entry)) (now (times .entry))) (scriptTable newer (now (sizes .entry)) (now (lists .entry)) (now (times .entry))) ⌝ }
 {
     succession::succeeds(
-        older_layout_of(layouts),
+        older,
         entries(lists, OLDER_STARTS, sizes),
         entries(lists, OLDER_ENDS, sizes),
         entries(lists, OLDER_COUNTS, sizes),
         older_time_entries(times, sizes),
         entries(lists, OLDER_RATES, sizes),
-        layout_of(layouts),
+        newer,
         entries(lists, STARTS, sizes),
         entries(lists, ENDS, sizes),
         entries(lists, COUNTS, sizes),
@@ -68,17 +82,24 @@ fn succeeds(layouts: &Layouts, sizes: &Sizes, lists: &Lists, times: &TimeLists) 
     )
 }
 
-fn horizon(layouts: &Layouts, sizes: &Sizes, lists: &Lists, times: &TimeLists) -> HorizonAnswer
+fn horizon(
+    older: Layout,
+    newer: Layout,
+    sizes: &Sizes,
+    lists: &Lists,
+    times: &TimeLists,
+) -> HorizonAnswer
     requires { ⌜ Fit (now sizes) ⌝ }
+    ensures { λ r. ⌜ horizonAnswer r ≡ horizonOf (olderTable older (now (sizes .entry)) (now (lists .entry)) (now (times .entry))) (scriptTable newer (now (sizes .entry)) (now (lists .entry)) (now (times .entry))) ⌝ }
 {
     succession::horizon(
-        older_layout_of(layouts),
+        older,
         entries(lists, OLDER_STARTS, sizes),
         entries(lists, OLDER_ENDS, sizes),
         entries(lists, OLDER_COUNTS, sizes),
         older_time_entries(times, sizes),
         entries(lists, OLDER_RATES, sizes),
-        layout_of(layouts),
+        newer,
         entries(lists, STARTS, sizes),
         entries(lists, ENDS, sizes),
         entries(lists, COUNTS, sizes),
