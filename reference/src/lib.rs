@@ -1,5 +1,5 @@
-//! An independent second reading of the clock rules: document 01, sentence by sentence, and requests 1 to 5 and 7 of
-//! document 02, in plain Rust.
+//! An independent second reading of the clock rules: document 01, sentence by sentence, requests 1 to 5 and 7 of document 02,
+//! and the operator's command with its two calls over an older and a newer table, in plain Rust.
 //!
 //! Words in quotation marks in the comments are document 01's or a request's. Every public call checks the tables it uses.
 
@@ -17,6 +17,7 @@ mod raw;
 mod refusal;
 mod segments;
 mod stamp;
+mod succession;
 mod text;
 mod time;
 
@@ -39,5 +40,6 @@ pub use raw::{microseconds, RawCounter};
 pub use refusal::Refusal;
 pub use segments::{steps_back, Segments};
 pub use stamp::read_stamp;
+pub use succession::{horizon, succeeds, Hypothesis, RefusedTable, Succession, Table};
 pub use text::read_text;
 pub use time::{count_at, time_of};

@@ -70,6 +70,17 @@ impl<'a> Segments<'a> {
         let room = (i128::from(time) - i128::from(self.time[i])) as u128 * u128::from(1_000 * msf);
         reached > room
     }
+
+    /// Of checked lists with a next row: is segment i's line, "rounded up, at the next segment's count [..] later than the next
+    /// segment's time"?
+    pub(crate) fn steps_back_at(self, i: usize, msf: u64) -> bool {
+        self.line_passes(i, self.count[i + 1], self.time[i + 1], msf)
+    }
+
+    /// Of checked lists: row i, if there is one.
+    pub(crate) fn row_at(self, i: usize) -> Option<(u64, i64, u64)> {
+        Some((*self.count.get(i)?, *self.time.get(i)?, *self.rate.get(i)?))
+    }
 }
 
 /// "A table steps back if some segment's line, rounded up, at the next segment's count is later than the next
@@ -78,6 +89,5 @@ pub fn steps_back(layout: &Layout, partitions: Partitions, segments: Segments) -
     let clock = layout.check()?;
     let total = partitions.check(clock.p)?;
     segments.check(clock.msf, total)?;
-    let Segments { count, time, .. } = segments;
-    Ok((0..count.len() - 1).any(|i| segments.line_passes(i, count[i + 1], time[i + 1], clock.msf)))
+    Ok((0..segments.count.len() - 1).any(|i| segments.steps_back_at(i, clock.msf)))
 }

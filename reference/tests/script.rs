@@ -296,3 +296,31 @@ fn packet_lines() {
     assert_eq!(ask(&["walk 65541 0 ", &bytes(2_000)].concat()), "refused 16\n");
     assert_eq!(ask(&["walk 65541 0 ", &bytes(2_001)].concat()), "bad line\n");
 }
+
+/// `older` copies all three tables; a change of the script's tables leaves the copy.
+#[test]
+fn two_tables() {
+    assert_eq!(ask("succeeds\nhorizon\nolder\nsucceeds\n"), "refused older 1\n".repeat(3));
+    assert_eq!(ask_a("succeeds\nolder\nsucceeds\nhorizon"), "refused older 1\nok yes\nok 1200\n");
+    // Table A cut to its first partition and segment as the older, then as the newer.
+    let cut = "partitions\nstart 0\nend 500\nsegments\ncount 0\ntime -1000\nrate 25000\n";
+    let script = [A, cut, "older\nsucceeds\nhorizon\n", A, "succeeds\nhorizon\nolder\n", cut, "succeeds\nhorizon\n"];
+    assert_eq!(ask(&script.concat()), "ok yes\nok 500\nok yes\nok 500\nok no partition 1\nok 0\n");
+    // Each name and the row.
+    for (lines, answers) in [
+        ("layout 2 2 100 10 0 0 0 0 0 0 0 0 0 0 0 0 0 0 0 0 0 0\n", "ok no layout 0\nok 0\n"),
+        ("start 7\nend 9\n", "ok yes\nok 1200\n"),
+        ("partitions\nstart 0\nend 500\nstart 200\nend 899\n", "ok no partition 1\nok 0\n"),
+        ("segments\ncount 0\ntime -1000\nrate 25000\n", "ok no segment 1\nok 600\n"),
+        ("count 1200\ntime 5000\nrate 10000\n", "ok no further 2\nok 1200\n"),
+        ("start 7\nend 9\ncount 1201\ntime 2802\nrate 10000\n", "ok no seam 1\nok 1200\n"),
+        ("start 7\n", "refused newer 2 2\nrefused newer 2 2\n"),
+        ("start 7\nolder\n", "refused older 2 2\nrefused older 2 2\n"),
+        ("count 700\n", "refused newer 3 2\nrefused newer 3 2\n"),
+    ] {
+        assert_eq!(ask_a(&["older\n", lines, "succeeds\nhorizon\n"].concat()), answers, "{}", lines);
+    }
+    for bad in ["older ", "older 1", " older", "Older", "succeeds 1", "succeeds ", "succeed", "horizon 1", "horizons"] {
+        assert_eq!(ask_a(&["older\n", bad, "\nsucceeds\n"].concat()), "bad line\nok yes\n", "{}", bad);
+    }
+}

@@ -1,4 +1,4 @@
-//! Writes a script, and remembers the tables, the raw counter and the tail in force.
+//! Writes a script, and remembers the tables, the older ones, the raw counter and the tail in force.
 
 use std::io::Write;
 
@@ -12,6 +12,7 @@ pub struct Writer {
     pub random: Random,
     pub script: Vec<u8>,
     pub tables: Tables,
+    pub older: Tables,
     pub counter: RawCounter,
     /// The tail that the last answered walk left.
     pub tail: Vec<u8>,
@@ -23,9 +24,9 @@ pub struct Writer {
 
 impl Writer {
     pub fn new(seed: u64) -> Writer {
-        let (tables, counter) = (Tables::new(), RawCounter::new());
+        let (tables, older, counter) = (Tables::new(), Tables::new(), RawCounter::new());
         let (random, script, tail) = (Random::new(seed), vec![], vec![]);
-        Writer { random, script, tables, counter, tail, questions: 0, raw: false }
+        Writer { random, script, tables, older, counter, tail, questions: 0, raw: false }
     }
 
     /// Any line, as it is.
@@ -228,6 +229,8 @@ impl Writer {
                 self.bytes(" ", piece);
                 self.walked(len, tail, piece);
             }
+            Question::Succeeds => self.word("succeeds"),
+            Question::Horizon => self.word("horizon"),
         }
         self.script.push(10);
     }
@@ -242,6 +245,12 @@ impl Writer {
         self.tail.extend_from_slice(piece);
         let from: usize = cut(&self.tail).iter().sum();
         self.tail.drain(..from);
+    }
+
+    /// Takes the tables in force as the older ones.
+    pub fn older(&mut self) {
+        self.older = self.tables.clone();
+        self.line(b"older");
     }
 
     /// Puts a raw counter in force.

@@ -15,6 +15,7 @@ pub enum Line<'a> {
     Time(i64),
     Rate(u64),
     Counter(RawCounter),
+    Older,
     Ask(Question<'a>),
 }
 
@@ -37,6 +38,8 @@ pub enum Question<'a> {
     ReadPacket(&'a [u8]),
     WritePacket(WriteQuestion<'a>),
     Walk { len: usize, tail: u64, piece: &'a [u8] },
+    Succeeds,
+    Horizon,
 }
 
 #[derive(Clone, Copy)]
@@ -145,6 +148,9 @@ pub fn parse<'a>(line: &[u8], buffer: &'a mut [u8; MOST_KERNEL]) -> Option<Line<
             let (len, tail) = (up_to(words.next()?, MOST_TAIL)?, number(words.next()?)?);
             Line::Ask(Question::Walk { len, tail, piece: bytes(words.next()?, &mut buffer[..MOST_BYTES])? })
         }
+        b"older" => Line::Older,
+        b"succeeds" => Line::Ask(Question::Succeeds),
+        b"horizon" => Line::Ask(Question::Horizon),
         _ => return None,
     };
     match words.next() {

@@ -1,5 +1,6 @@
 //! Answers to lines.
 
+use std::fmt::Display;
 use std::io::{self, Write};
 
 use super::{
@@ -8,13 +9,15 @@ use super::{
 };
 use crate::packet::{self, Packet};
 use crate::{
-    back, count_at, forward, microseconds, print_count, print_stamp, read_kernel, read_message, read_stamp, read_text,
-    steps_back, time_of, RawCounter, Refusal,
+    back, count_at, forward, horizon, microseconds, print_count, print_stamp, read_kernel, read_message, read_stamp,
+    read_text, steps_back, succeeds, time_of, RawCounter, Refusal, RefusedTable,
 };
 
 /// Answers a script line by line.
 pub struct Session {
     pub tables: Tables,
+    /// "At the start the older table is as empty as the newer."
+    pub older: Tables,
     /// "The script has one raw counter; at the start it has seen no reset."
     pub counter: RawCounter,
     /// "The script has one tail buffer of 65,600 zeros".
@@ -25,7 +28,7 @@ pub struct Session {
 impl Session {
     pub fn new() -> Session {
         let (tail, buffer) = (Box::new([0; MOST_TAIL]), Box::new([0; MOST_KERNEL]));
-        Session { tables: Tables::new(), counter: RawCounter::new(), tail, buffer }
+        Session { tables: Tables::new(), older: Tables::new(), counter: RawCounter::new(), tail, buffer }
     }
 
     /// One line without its byte 10; its answer, if it has one, is added to the output.
@@ -36,6 +39,13 @@ impl Session {
         }
         let done = match parse(line, &mut self.buffer) {
             Some(Line::Ask(Question::Walk { len, tail, piece })) => walked(output, &mut self.tail[..len], tail, piece),
+            // "copies the script's layout, partitions and segments as the older table"
+            Some(Line::Older) => {
+                self.older = self.tables.clone();
+                true
+            }
+            Some(Line::Ask(Question::Succeeds)) => said(output, succeeds(self.older.table(), self.tables.table())),
+            Some(Line::Ask(Question::Horizon)) => said(output, horizon(self.older.table(), self.tables.table())),
             Some(good) => self.tables.take(&mut self.counter, good, output),
             None => false,
         };
@@ -71,6 +81,7 @@ impl Tables {
             Line::Time(value) => return add(&mut self.time, value),
             Line::Rate(value) => return add(&mut self.rate, value),
             Line::Counter(state) => *counter = state,
+            Line::Older => unreachable!("the session keeps the older table"),
             Line::Ask(question) => self.answer(counter, question, output),
         }
         true
@@ -117,6 +128,7 @@ impl Tables {
                 printed(output, result, &lent[..len])
             }
             Question::Walk { .. } => unreachable!("a walk asks no tables"),
+            Question::Succeeds | Question::Horizon => unreachable!("the session keeps the older table"),
         };
         written.expect("a vector takes all bytes");
     }
@@ -134,11 +146,18 @@ fn bits(result: Result<f64, Refusal>) -> Result<String, Refusal> {
     result.map(|double| format!("{:016x}", double.to_bits()))
 }
 
-fn plain<T: std::fmt::Display>(output: &mut Vec<u8>, result: Result<T, Refusal>) -> io::Result<()> {
+fn plain<T: Display, R: Display>(output: &mut Vec<u8>, result: Result<T, R>) -> io::Result<()> {
     match result {
         Ok(answer) => writeln!(output, "ok {}", answer),
         Err(refusal) => writeln!(output, "refused {}", refusal),
     }
+}
+
+/// The same, of two tables: "`refused older K`, else `refused newer K`, with the place behind K where there is one". Always a
+/// good line.
+fn said<T: Display>(output: &mut Vec<u8>, result: Result<T, RefusedTable>) -> bool {
+    plain(output, result).expect("a vector takes all bytes");
+    true
 }
 
 /// "TYPE APID FLAGS SEQUENCE COARSE FINE DATA COUNT ENCODED".
@@ -218,7 +237,7 @@ fn kernel(output: &mut Vec<u8>, question: KernelQuestion) -> io::Result<()> {
 }
 
 /// A blank, then "one word: its numbers with a comma between, `.` if it has none".
-fn put_list<T: std::fmt::Display>(output: &mut Vec<u8>, list: &[T]) -> io::Result<()> {
+fn put_list<T: Display>(output: &mut Vec<u8>, list: &[T]) -> io::Result<()> {
     output.push(b' ');
     if list.is_empty() {
         output.push(b'.');

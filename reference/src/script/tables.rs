@@ -1,6 +1,6 @@
 //! The tables in force.
 
-use crate::{Layout, Partitions, Segments};
+use crate::{Layout, Partitions, Segments, Table};
 
 #[derive(Clone, Debug, PartialEq)]
 pub struct Tables {
@@ -25,6 +25,10 @@ impl Tables {
 
     pub fn segments(&self) -> Segments<'_> {
         Segments { count: &self.count, time: &self.time, rate: &self.rate }
+    }
+
+    pub fn table(&self) -> Table<'_> {
+        Table { layout: &self.layout, partitions: self.partitions(), segments: self.segments() }
     }
 }
 

@@ -266,6 +266,8 @@ fn name(question: &Question) -> &'static str {
         Question::ReadPacket(_) => "read-packet",
         Question::WritePacket(_) => "write-packet",
         Question::Walk { .. } => "walk",
+        Question::Succeeds => "succeeds",
+        Question::Horizon => "horizon",
     }
 }
 

@@ -1,6 +1,8 @@
 //! Short forms for the tests.
 #![allow(dead_code)]
 
+pub mod pairs;
+
 use reference::*;
 
 pub const LATEST: i64 = 4_000_000_000_000_000_000;

@@ -44,7 +44,7 @@ pub const MUTANTS: &[Mutant] = &[
     mutant("last-segments-end", "segments.rs", "self.within_limits(last, total, msf)", "self.within_limits(last, self.count[last], msf)"),
     mutant("segment-at-total", "segments.rs", "self.count[last] > total", "self.count[last] >= total"),
     mutant("line-rounded-down", "segments.rs", "    reached > room", "    reached >= room + u128::from(1_000 * msf)"),
-    mutant("equal-steps-back", "segments.rs", "time[i + 1], clock.msf", "time[i + 1] - 1, clock.msf"),
+    mutant("equal-steps-back", "segments.rs", "self.time[i + 1], msf", "self.time[i + 1] - 1, msf"),
     // Text.
     mutant("text-length", "text.rs", "LONGEST_TEXT: usize = 96", "LONGEST_TEXT: usize = 97"),
     mutant("first-six-then-seven", "text.rs", "if number > n {", "if values[0].is_some() && number > n {"),
