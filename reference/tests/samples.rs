@@ -1,6 +1,7 @@
 //! The generator brings up every outcome, and the stored samples are its.
 
-use reference::generate::{fresh, fresh_kernels, fresh_packets, fresh_raw, script, tables, STORED_COUNT, STORED_SEED};
+use reference::generate::{fresh, fresh_kernels, fresh_packets, fresh_pairs, fresh_raw, script, tables};
+use reference::generate::{STORED_COUNT, STORED_SEED};
 use reference::random::Random;
 use reference::script::answers;
 use reference::steps_back;
@@ -110,6 +111,18 @@ fn outcomes() -> Vec<String> {
             ],
         ),
         ("walk", "ok", vec!["16|25"]),
+        (
+            "succeeds",
+            "ok yes|ok no layout|ok no partition|ok no segment|ok no further|ok no seam",
+            vec!["older 1|older 2|older 3|newer 1|newer 2|newer 3"],
+        ),
+        (
+            "horizon",
+            "ok, 0 by the layout|ok, 0 by the partitions|ok, the total, no row differs\
+             |ok, the total, a row above it differs|ok, the total, where a row differs|ok, the older's count\
+             |ok, the newer's count|ok, the count of both",
+            vec!["older 1|older 2|older 3|newer 1|newer 2|newer 3"],
+        ),
     ] {
         all.extend(answers.split('|').map(|answer| format!("{} {}", call, answer)));
         all.extend(
@@ -275,6 +288,50 @@ fn packets() -> Vec<String> {
     all
 }
 
+/// What questions about two tables show.
+fn pairs() -> Vec<String> {
+    let succeeds = "yes, nothing added|yes, further segments|yes, no further segment|yes, a partition added\
+                    |yes, the last end kept|yes, the last end greater|yes, the last end greater and a partition added\
+                    |yes, one above the total|yes, the line meets the next row|yes, the line, rounded up, meets the next row\
+                    |yes, a kept row steps back|yes, a further row steps back|yes, other slots after the n-th\
+                    |layout, n alone|layout, a modulus alone|layout, an offset alone|layout, the delimiter alone\
+                    |partition, no row|partition, another start|partition, an inner end greater\
+                    |partition, an inner end smaller|partition, the last end smaller|partition, the only row\
+                    |partition, the first row|partition, an inner row|partition, the last row\
+                    |partition, the first of several rows\
+                    |segment, a row the older alone has|segment, another count|segment, another time\
+                    |segment, another rate|segment, several numbers|segment, the only row|segment, the first row\
+                    |segment, an inner row|segment, the last row|segment, the first of several rows\
+                    |further, at the total|further, below the total|further, the first of several rows\
+                    |further, another above the total|seam, only rounded up|seam, rounded down too|seam, row 0\
+                    |seam, a later row|layout before partition|layout before segment|layout before further\
+                    |layout before seam|partition before segment|partition before further|partition before seam\
+                    |segment before further|segment before seam|further before seam";
+    let horizon = "beside yes|beside layout|beside partition|beside segment|beside further|beside seam\
+                   |a row the older alone has|a row the newer alone has|another count|another time|another rate\
+                   |several numbers|the first row|a later row|0, the first row's count|a row one above the total";
+    let mut refusals = vec![];
+    for side in ["older", "newer"] {
+        for number in [2, 3] {
+            for row in ["lengths", "the first row", "an inner row", "the last row"] {
+                refusals.push(format!("{} {}, {}", side, number, row));
+            }
+        }
+    }
+    for older in 1..4 {
+        refusals.extend((1..4).map(|newer| format!("older {} before newer {}", older, newer)));
+    }
+    let mut all = vec![];
+    for (call, list) in [("succeeds", succeeds), ("horizon", horizon), ("two tables", &refusals.join("|"))] {
+        all.extend(list.split('|').map(|show| format!("{} {}", call, show)));
+    }
+    all
+}
+
+/// Long lists, so there are few.
+const RARE_PAIRS: &[&str] =
+    &["two tables older 2, too many rows", "two tables newer 2, too many rows", "two tables newer 3, too many rows"];
+
 /// Long lines, so there are few: data octets over 65,536, alone and with other faults. Also each number of bytes under seven.
 const RARE_PACKETS: &[&str] = &[
     "write-packet 25 before 12",
@@ -308,9 +365,11 @@ fn every_outcome_comes_up() {
     assert!(tally.raws_answered * 100 >= tally.raws * 50, "{} of {}", tally.raws_answered, tally.raws);
     assert!(tally.packets >= 8_000);
     assert!(tally.packets_answered * 100 >= tally.packets * 40, "{} of {}", tally.packets_answered, tally.packets);
+    assert!(tally.pairs >= 3_000);
+    assert!(tally.pairs_answered * 100 >= tally.pairs * 60, "{} of {}", tally.pairs_answered, tally.pairs);
     assert!(tally.unexpected.is_empty(), "{:?}", tally.unexpected);
     let expected = answers(&script);
-    assert!(script.len() + expected.len() < 15_500_000, "{} bytes", script.len());
+    assert!(script.len() + expected.len() < 16_000_000, "{} bytes", script.len());
     // "No answer has more than 8,192 bytes."
     assert!(expected.split(|&byte| byte == 10).all(|answer| answer.len() <= 8_192));
     let mut outcomes = outcomes();
@@ -328,11 +387,11 @@ fn every_outcome_comes_up() {
         let times = tally.places.get(label).copied().unwrap_or(0);
         assert!(times >= FEWEST, "{} samples of place {}", times, label);
     }
-    for show in counters().iter().chain(&packets()) {
+    for show in counters().iter().chain(&packets()).chain(&pairs()) {
         let times = tally.counters.get(show).copied().unwrap_or(0);
         assert!(times >= FEWEST, "{} samples that show {}", times, show);
     }
-    for show in RARE_PACKETS {
+    for show in RARE_PACKETS.iter().chain(RARE_PAIRS) {
         assert!(tally.counters.contains_key(*show), "no sample that shows {}", show);
     }
     let mut rare = kernels(RARE);
@@ -418,6 +477,30 @@ fn random_packets() {
     assert!(tally.outcomes.contains_key("write-packet refused 25"));
     let tally = reference::tally::tally(&fresh(9, 20_000));
     assert!(tally.packets > 1_000 && tally.packets_answered > 500, "{} of {}", tally.packets_answered, tally.packets);
+}
+
+/// Random pairs of tables: of every outcome, answered in the main, and each answer found a second time.
+#[test]
+fn random_pairs() {
+    assert!(fresh_pairs(7, 500) == fresh_pairs(7, 500));
+    let (mut asked, mut answered) = (0, 0);
+    for seed in 0..60 {
+        let script = fresh_pairs(seed, 1_000);
+        let tally = tally(&script);
+        assert!(tally.pairs >= 1_000 && tally.pairs == tally.questions);
+        assert!(tally.unexpected.is_empty(), "{:?}", tally.unexpected);
+        asked += tally.pairs;
+        answered += tally.pairs_answered;
+    }
+    assert!(answered * 100 > asked * 65, "{} of {}", answered, asked);
+    let tally = tally(&fresh_pairs(9, 20_000));
+    let calls = ["succeeds", "horizon"];
+    for outcome in outcomes().iter().filter(|outcome| calls.iter().any(|call| outcome.starts_with(call))) {
+        let times = tally.outcomes.get(outcome).copied().unwrap_or(0);
+        assert!(times >= 100, "{} questions of {}", times, outcome);
+    }
+    let tally = reference::tally::tally(&fresh(9, 20_000));
+    assert!(tally.pairs > 500 && tally.pairs_answered > 300, "{} of {}", tally.pairs_answered, tally.pairs);
 }
 
 #[test]

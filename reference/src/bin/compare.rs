@@ -3,11 +3,11 @@
 use std::io::{Read, Write};
 use std::process::{Command, ExitCode, Stdio};
 
-use reference::generate::{fresh, fresh_kernels, fresh_packets, fresh_raw, put_counter, put_tables};
+use reference::generate::{fresh, fresh_kernels, fresh_packets, fresh_pairs, fresh_raw, put_counter, put_tables};
 use reference::random::Random;
 use reference::script::{answers, parse, Line, Question, Session, MOST_KERNEL};
 
-const USAGE: &str = "compare --program PATH --seed S --questions N [--only kernel|raw|packet]";
+const USAGE: &str = "compare --program PATH --seed S --questions N [--only kernel|raw|packet|tables]";
 /// Questions asked of one run of the program.
 const CHUNK: u64 = 25_000;
 /// Kernel texts and pieces of dumps are longer.
@@ -35,7 +35,7 @@ fn run() -> Result<u64, String> {
             "--program" => program = Some(value),
             "--seed" => seed = Some(value.parse::<u64>().map_err(|_| USAGE)?),
             "--questions" => questions = Some(value.parse::<u64>().map_err(|_| USAGE)?),
-            "--only" if ["kernel", "raw", "packet"].contains(&value.as_str()) => only = value,
+            "--only" if ["kernel", "raw", "packet", "tables"].contains(&value.as_str()) => only = value,
             _ => return Err(USAGE.to_string()),
         }
     }
@@ -50,6 +50,7 @@ fn run() -> Result<u64, String> {
             "kernel" => fresh_kernels(chunk_seed, asked),
             "raw" => fresh_raw(chunk_seed, asked),
             "packet" => fresh_packets(chunk_seed, asked),
+            "tables" => fresh_pairs(chunk_seed, asked),
             _ => fresh(chunk_seed, asked),
         };
         let (expected, given) = ask(&program, &script)?;
@@ -84,8 +85,8 @@ fn ask(program: &str, script: &[u8]) -> Result<(Vec<u8>, Vec<u8>), String> {
     Ok((expected, given))
 }
 
-/// The first answer that differs, with its question and the tables and raw counter in force; for a walk also the walks since
-/// the last from an empty tail.
+/// The first answer that differs, with its question and the tables and raw counter in force; for a question about two tables
+/// also the older ones, for a walk also the walks since the last from an empty tail.
 fn difference(script: &[u8], given: &[u8]) -> String {
     let mut session = Session::new();
     let mut given = given.split(|&byte| byte == 10);
@@ -101,17 +102,25 @@ fn difference(script: &[u8], given: &[u8]) -> String {
         }
         answer.pop();
         let other = given.next().unwrap_or(b"no answer");
-        let walk = match parse(line, &mut buffer) {
-            Some(Line::Ask(Question::Walk { tail, .. })) => Some(tail),
-            _ => None,
+        let (walk, pair) = match parse(line, &mut buffer) {
+            Some(Line::Ask(Question::Walk { tail, .. })) => (Some(tail), false),
+            Some(Line::Ask(Question::Succeeds | Question::Horizon)) => (None, true),
+            _ => (None, false),
         };
         if walk == Some(0) {
             walks.clear();
         }
         if answer != other {
             let before = if walk.is_some() { walks.join(&10) } else { vec![] };
+            let older = if pair {
+                let older = put_tables(&session.older);
+                [&older[..], b"older\npartitions\nsegments\n"].concat()
+            } else {
+                vec![]
+            };
             return format!(
-                "{}{}{}\n{}\n# line {} of the chunk\n# the library: {}\n# the program: {}",
+                "{}{}{}{}\n{}\n# line {} of the chunk\n# the library: {}\n# the program: {}",
+                String::from_utf8_lossy(&older),
                 String::from_utf8_lossy(&put_tables(&session.tables)),
                 put_counter(counter),
                 String::from_utf8_lossy(&before),

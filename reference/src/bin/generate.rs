@@ -59,6 +59,7 @@ fn run() -> Result<(), String> {
     eprintln!("{:>8} kernel texts, {} answered", tally.kernels, tally.kernels_answered);
     eprintln!("{:>8} of raw counters and microseconds, {} answered", tally.raws, tally.raws_answered);
     eprintln!("{:>8} of packets, {} answered", tally.packets, tally.packets_answered);
+    eprintln!("{:>8} of two tables, {} answered", tally.pairs, tally.pairs_answered);
     for unexpected in &tally.unexpected {
         eprintln!("unexpected {}", unexpected);
     }

@@ -3,7 +3,7 @@
 use super::catalogue::longest;
 use super::tables::total;
 use super::writer::Writer;
-use super::{packets, raw};
+use super::{packets, pairs, raw};
 use crate::script::{Question, Tables, MOST_ENTRIES};
 use crate::{Layout, Partitions, Segments};
 
@@ -24,6 +24,7 @@ pub fn all(writer: &mut Writer) {
     questions(writer, 24);
     writer.apart(2, raw::most_partitions);
     writer.apart(7, packets::most_partitions);
+    writer.apart(10, pairs::most_partitions);
     // The clock with the longest prints: stamps of 63 bytes at the front, of 66 at the end.
     writer.layout(&longest());
     for e in [0, total(&tables) - 1, total(&tables)] {
@@ -46,6 +47,11 @@ pub fn all(writer: &mut Writer) {
             writer.line(format!("rate {}", rate).as_bytes());
         }
         questions(writer, if row == Segments::MOST as u64 - 1 { 24 } else { 5 });
+        let rows = writer.tables.count.len();
+        writer.apart(11, |writer| match rows {
+            Segments::MOST => pairs::most_segments(writer),
+            _ => pairs::too_many_segments(writer, rows),
+        });
     }
     // The same of partitions.
     for row in Partitions::MOST..=MOST_ENTRIES {
@@ -60,7 +66,9 @@ pub fn all(writer: &mut Writer) {
         let rows = writer.tables.start.len();
         writer.apart(3, |writer| raw::too_many_partitions(writer, rows));
         writer.apart(8, |writer| packets::too_many_partitions(writer, rows));
+        writer.apart(12, |writer| pairs::too_many_partitions(writer, rows));
     }
+    writer.apart(13, pairs::older_of_too_many);
     writer.segments(Segments { count: &[0], time: &[0], rate: &[10_000] });
     questions(writer, 2);
     // 9,999 lengths of 10^15 - 1, which add up to nearly 10^19.

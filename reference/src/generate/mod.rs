@@ -8,6 +8,7 @@ mod kernels;
 mod large;
 mod lines;
 mod packets;
+mod pairs;
 mod questions;
 mod raw;
 pub mod tables;
@@ -42,6 +43,9 @@ pub fn script(seed: u64, count: u64) -> Vec<u8> {
     // And packets.
     writer.random = Random::new(seed ^ 7 << 32);
     packets::all(&mut writer);
+    // And two tables, an older and a newer.
+    writer.random = Random::new(seed ^ 8 << 32);
+    pairs::all(&mut writer);
     writer.script.pop();
     writer.script
 }
@@ -62,6 +66,9 @@ pub fn fresh(seed: u64, count: u64) -> Vec<u8> {
         }
         writer.any_calls(40);
         writer.any_packets(30);
+        for _ in 0..4 {
+            writer.any_pairs(3);
+        }
     }
     writer.script
 }
@@ -88,6 +95,19 @@ pub fn fresh_packets(seed: u64, count: u64) -> Vec<u8> {
     }
     while writer.questions < count {
         writer.any_packets(120);
+    }
+    writer.script
+}
+
+/// A script of random pairs of tables, an older and a newer.
+pub fn fresh_pairs(seed: u64, count: u64) -> Vec<u8> {
+    let mut writer = Writer::new(seed);
+    writer.raw = true;
+    if writer.random.below(64) == 0 {
+        pairs::all(&mut writer);
+    }
+    while writer.questions < count {
+        writer.any_pairs(3);
     }
     writer.script
 }

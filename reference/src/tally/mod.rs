@@ -1,10 +1,11 @@
 //! Counts what a script brings up: each call's outcomes, each clause of a refusal and of its place, each rule of the tables
 //! broken alone. The clauses, rules and places are found here a second time, from the question and the tables, not by the
-//! library. For kernel text the comment before a question says what it breaks, and where; for raw counters and
-//! packets it says so too.
+//! library. For kernel text the comment before a question says what it breaks, and where; for raw counters, packets and two
+//! tables it says so too.
 
 mod host;
 mod packets;
+mod pairs;
 mod raw;
 mod tables;
 mod text;
@@ -43,10 +44,13 @@ pub struct Tally {
     /// Questions about packets, and those of them answered.
     pub packets: u64,
     pub packets_answered: u64,
-    /// What questions about raw counters, microseconds and packets show. A question may have several.
+    /// Questions about two tables, and those of them answered.
+    pub pairs: u64,
+    pub pairs_answered: u64,
+    /// What questions about raw counters, microseconds, packets and two tables show. A question may have several.
     pub counters: BTreeMap<String, u64>,
     /// Comments that say another outcome, with the outcome; prints of another length; other places; other answers of raw
-    /// counters, microseconds and packets.
+    /// counters, microseconds, packets and two tables.
     pub unexpected: Vec<String>,
 }
 
@@ -81,6 +85,10 @@ pub fn tally(script: &[u8]) -> Tally {
                 let answered = tally.note_call(&comment, &session.tables, question, expected, &answer);
                 tally.packets += 1;
                 tally.packets_answered += u64::from(answered);
+            }
+            Some(Line::Ask(question @ (Question::Succeeds | Question::Horizon))) => {
+                let expected = pairs::expected(&session.older, &session.tables, &question);
+                tally.note_pair(&comment, question, expected, &answer);
             }
             Some(Line::Ask(question)) => tally.note(&session.tables, question, &answer),
             _ => tally.bad_lines += 1,
@@ -226,6 +234,33 @@ impl Tally {
             *self.counters.entry([call, " ", &show].concat()).or_insert(0) += 1;
         }
         found == "ok"
+    }
+
+    /// The comment has the answer without its first word, a colon and what it is about.
+    fn note_pair(&mut self, comment: &str, question: Question, expected: pairs::Expected, answer: &[u8]) {
+        let answer = String::from_utf8_lossy(answer);
+        let answer = answer.trim_end();
+        let call = name(&question);
+        if answer != expected.answer {
+            self.unexpected.push(format!("{}: {}, not {}", call, answer, expected.answer));
+        }
+        let (word, found) = answer.split_once(' ').unwrap_or((answer, ""));
+        if let Some((said, _)) = comment.split_once(": ") {
+            if said != found {
+                self.unexpected.push(format!("{}: {}", comment, found));
+            }
+        }
+        let answered = u64::from(word == "ok");
+        self.questions += 1;
+        self.answered += answered;
+        self.pairs += 1;
+        self.pairs_answered += answered;
+        *self.outcomes.entry([call, " ", &expected.outcome].concat()).or_insert(0) += 1;
+        // Both calls are refused alike.
+        let call = if answered > 0 { call } else { "two tables" };
+        for show in expected.shows {
+            *self.counters.entry([call, " ", &show].concat()).or_insert(0) += 1;
+        }
     }
 
     fn rule(&mut self, fault: &'static str) {

@@ -3,6 +3,7 @@
 mod host;
 mod list;
 mod packets;
+mod pairs;
 
 use std::fs;
 use std::io;
@@ -101,7 +102,7 @@ fn samples_of(package: &Path, place: &Path, program: &'static str) -> Result<Sam
 }
 
 fn mutants() -> impl Iterator<Item = &'static Mutant> {
-    list::MUTANTS.iter().chain(packets::MUTANTS).chain(host::MUTANTS)
+    list::MUTANTS.iter().chain(packets::MUTANTS).chain(pairs::MUTANTS).chain(host::MUTANTS)
 }
 
 /// All, or those whose names begin with one of the words.

@@ -11,7 +11,7 @@ mod rules;
 mod texts;
 
 use super::writer::Writer;
-use super::{packets, raw};
+use super::{packets, pairs, raw};
 use crate::script::Tables;
 use crate::Layout;
 pub use prints::longest;
@@ -22,6 +22,7 @@ pub fn all(writer: &mut Writer) {
     writer.each_question();
     writer.apart(1, raw::before_tables);
     writer.apart(6, packets::before_tables);
+    writer.apart(9, pairs::before_tables);
     writer.line(b"# examples and readings");
     examples::all(writer);
     writer.line(b"# texts");
@@ -45,7 +46,7 @@ pub fn all(writer: &mut Writer) {
     writer.all_lines();
 }
 
-fn layout(moduli: &[u64], offsets: &[u64], delimiter: u8) -> Layout {
+pub fn layout(moduli: &[u64], offsets: &[u64], delimiter: u8) -> Layout {
     let (mut all_moduli, mut all_offsets) = ([0; 10], [0; 10]);
     all_moduli[..moduli.len()].copy_from_slice(moduli);
     all_offsets[..offsets.len()].copy_from_slice(offsets);
@@ -53,11 +54,11 @@ fn layout(moduli: &[u64], offsets: &[u64], delimiter: u8) -> Layout {
 }
 
 /// Offsets 0, delimiter 1.
-fn plain(moduli: &[u64]) -> Layout {
+pub fn plain(moduli: &[u64]) -> Layout {
     layout(moduli, &[], 1)
 }
 
-fn table_a() -> Tables {
+pub fn table_a() -> Tables {
     let (layout, partitions, segments) = crate::table_a();
     Tables {
         layout,
@@ -69,7 +70,7 @@ fn table_a() -> Tables {
     }
 }
 
-fn tables(layout: Layout, partitions: &[(u64, u64)], segments: &[(u64, i64, u64)]) -> Tables {
+pub fn tables(layout: Layout, partitions: &[(u64, u64)], segments: &[(u64, i64, u64)]) -> Tables {
     Tables {
         layout,
         start: partitions.iter().map(|row| row.0).collect(),
