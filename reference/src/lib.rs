@@ -21,6 +21,7 @@ mod succession;
 mod text;
 mod time;
 
+pub mod command;
 pub mod generate;
 pub mod host;
 pub mod packet;
