@@ -1,9 +1,10 @@
 //! Writes a seeded script and the answers it expects, and says on standard error what the script brings up. Without a seed it
-//! writes what is stored: the script, and a host's calls with their answers.
+//! writes what is stored: the script, a host's calls with their answers, and what the operator's command prints.
 
+use std::path::Path;
 use std::process::ExitCode;
 
-use reference::generate::{host, script, STORED_COUNT, STORED_SEED};
+use reference::generate::{host, runs, script, STORED_COUNT, STORED_SEED};
 use reference::{script::answers, tally::tally};
 
 const USAGE: &str = "generate [SEED COUNT] [--script PATH] [--answers PATH]";
@@ -37,6 +38,7 @@ fn run() -> Result<(), String> {
     };
     if numbers.is_empty() {
         write_calls()?;
+        write_runs()?;
     }
     let script = script(seed, count);
     let answers = answers(&script);
@@ -81,5 +83,16 @@ fn write_calls() -> Result<(), String> {
     write(&[FOLDER, "/answers"].concat(), &answers)?;
     let lines = answers.iter().filter(|&&byte| byte == 10).count();
     eprintln!("{:>8} calls of a host, {} bytes, {} bytes of answers", lines, calls.len(), answers.len());
+    Ok(())
+}
+
+/// What the operator's command prints on its stored runs and on the samples.
+fn write_runs() -> Result<(), String> {
+    let root = Path::new("..");
+    for run in runs::RUNS {
+        run.write(root)?;
+    }
+    runs::write_samples(root)?;
+    eprintln!("{:>8} runs of the command, {} on the samples", runs::RUNS.len(), runs::SAMPLES.len());
     Ok(())
 }

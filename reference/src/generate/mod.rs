@@ -11,6 +11,7 @@ mod packets;
 mod pairs;
 mod questions;
 mod raw;
+pub mod runs;
 pub mod tables;
 mod texts;
 mod writer;
