@@ -34,6 +34,18 @@ fn checksums() {
     }
 }
 
+/// Two tables: each answer is the same over and over, yes or a total. The older's partitions are 4,999 or 9,999 of 314,603 ticks.
+#[test]
+fn checksums_of_two_tables() {
+    let sum = |answer: u64| (0..100).fold(0, |sum, _| (sum * 31 + answer % 1_000_000_007) % 1_000_000_007);
+    let lines = [("longer", 4_999), ("equal", 9_999)].map(|(name, partitions)| {
+        let (yes, total) = (sum(1), sum(partitions * 314_603));
+        format!("succeeds-{} 100 {}\nhorizon-{} 100 {}\n", name, yes, name, total)
+    });
+    let bench = Command::new(env!("CARGO_BIN_EXE_bench")).arg("tables").output().unwrap();
+    assert_eq!(String::from_utf8(bench.stdout).unwrap(), lines.concat());
+}
+
 /// The operator's command, run in a folder: what it prints, and its status.
 fn sclk(folder: &str, words: &[String], input: Stdio) -> (Vec<u8>, i32) {
     let run = Command::new(env!("CARGO_BIN_EXE_sclk")).args(words).current_dir(folder).stdin(input).output().unwrap();

@@ -1,7 +1,8 @@
 //! The benchmark's questions, asked of the reference. Without a word it asks few of each and prints their checksums; with the
 //! word `time` it asks many and prints nanoseconds a call behind each checksum. The proved program `bench` does the same. With
 //! the word `host` in front it asks the questions of the proved program `bench_host`: those of the C calls. With the word
-//! `packets` in front it asks those of `bench_dump`: packets, and dumps of them.
+//! `packets` in front it asks those of `bench_dump`: packets, and dumps of them. With the word `tables` in front it asks
+//! whether a newer table succeeds an older one, and where their horizon is.
 
 use std::fmt::Write;
 
@@ -9,7 +10,7 @@ use reference::host::{self, LayoutSlices, PartitionSlices, SegmentSlices};
 use reference::packet::{self, Header, LONGEST};
 use reference::quotient::{down, down_by_bits, up, up_by_bits};
 use reference::{count_at, microseconds, print_count, print_stamp, read_kernel, read_message, read_stamp, read_text};
-use reference::{steps_back, time_of, Layout, Partitions, RawCounter, Segments};
+use reference::{horizon, steps_back, succeeds, time_of, Layout, Partitions, RawCounter, Segments, Succession, Table};
 
 extern "C" {
     /// C's `clock`: microseconds of processor time. The proved program reads the same.
@@ -200,11 +201,14 @@ fn main() {
     let mut words = std::env::args().skip(1).peekable();
     let host = words.next_if_eq("host").is_some();
     let packets = words.next_if_eq("packets").is_some();
+    let tables = words.next_if_eq("tables").is_some();
     let timed = words.next().as_deref() == Some("time");
     if host {
         host_lines(timed);
     } else if packets {
         packet_lines(timed);
+    } else if tables {
+        table_lines(timed);
     } else {
         lines(timed);
     }
@@ -559,4 +563,35 @@ fn walk_line(name: &str, dump: &[u8], times: u64, timed: bool) {
         }
         sum.wrapping_add(tail)
     });
+}
+
+/// Two tables, the newer with as many partitions and segments as there may be. The older has the first half of its rows, or it
+/// is a copy of it.
+fn table_lines(timed: bool) {
+    let (_, start, end) = equal_partitions(9_999);
+    let rows = Rows::new(10_000, 1);
+    let newer =
+        Table { layout: &LAYOUT, partitions: Partitions { start: &start, end: &end }, segments: rows.segments() };
+    let copy = (start.clone(), end.clone(), Rows::new(10_000, 1));
+    let equal =
+        Table { layout: &LAYOUT, partitions: Partitions { start: &copy.0, end: &copy.1 }, segments: copy.2.segments() };
+    let segments = copy.2.segments();
+    let half = Table {
+        layout: &LAYOUT,
+        partitions: Partitions { start: &copy.0[..4_999], end: &copy.1[..4_999] },
+        segments: Segments {
+            count: &segments.count[..5_000],
+            time: &segments.time[..5_000],
+            rate: &segments.rate[..5_000],
+        },
+    };
+    let times = often(timed, 5_000, 100);
+    for (older, which) in [(half, "longer"), (equal, "equal")] {
+        line(&format!("succeeds-{which}"), times, timed, |_| match succeeds(*unknown(&older), *unknown(&newer)) {
+            Ok(Succession::Yes) => 1,
+            Ok(Succession::No(_, row)) => 2 + row as u64,
+            Err(_) => 0,
+        });
+        line(&format!("horizon-{which}"), times, timed, |_| horizon(*unknown(&older), *unknown(&newer)).unwrap());
+    }
 }
