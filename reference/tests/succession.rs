@@ -286,7 +286,11 @@ fn edit(random: &mut Random, tables: &mut Tables, older: &Tables) {
     let (row, segment) = (random.below(tables.start.len()), random.below(tables.count.len()));
     match random.below(12) {
         0 => tables.layout.delimiter = random.between(1, 5) as u8,
-        1 => tables.layout.offsets[random.below(3)] += 1,
+        1 => {
+            // At times behind the n-th.
+            let offset = &mut tables.layout.offsets[random.below(3)];
+            *offset = offset.wrapping_add(1);
+        }
         2 => tables.start[row] = random.between(0, p - 1),
         3 => tables.end[row] = random.between(0, p - 1),
         4 => {

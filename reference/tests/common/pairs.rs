@@ -58,8 +58,9 @@ pub fn product(tables: &Tables) -> u64 {
     tables.layout.moduli[..tables.layout.n as usize].iter().product()
 }
 
+/// Of lists that may be broken.
 pub fn total(tables: &Tables) -> u64 {
-    tables.start.iter().zip(&tables.end).map(|(start, end)| end - start).sum()
+    tables.start.iter().zip(&tables.end).map(|(start, end)| end.saturating_sub(*start)).sum()
 }
 
 fn rate(random: &mut Random, tables: &Tables) -> u64 {
@@ -82,7 +83,7 @@ pub fn add_partitions(random: &mut Random, tables: &mut Tables, rows: u64) {
 pub fn add_segments(random: &mut Random, tables: &mut Tables, lowest: u64, highest: u64) {
     for _ in 0..random.between(0, 2) {
         let last = tables.count.len() - 1;
-        let from = lowest.max(tables.count[last] + 1);
+        let from = lowest.max(tables.count[last].saturating_add(1));
         if from > highest {
             return;
         }
