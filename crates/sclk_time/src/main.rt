@@ -1,0 +1,4 @@
+// The operator's command, run for times of stamps.
+fn main() {
+    command::run();
+}
