@@ -6,6 +6,7 @@ ghost use Rattle.command_load.specs.Loaded.{loadedOf, Within};
 use command_files::FileRead;
 use command_files::read_file;
 use command_files::say;
+use command_status::Status;
 use kernel::read_kernel;
 use kernel_rules::Kernel;
 use kernel_rules::KernelAnswer;
@@ -81,9 +82,10 @@ fn say_refused(path: &[u8], refusal: Refusal) {
     io::write_all(STDERR_FILENO, &buffer[..n]);
 }
 
-// The same of the kernel that an argument names.
-pub fn refuse_argument(argument: usize, refusal: Refusal) {
+// The same of the kernel that an argument names, and the status with which the program ends then.
+pub fn refuse_argument(argument: usize, refusal: Refusal) -> Status {
     let mut path = io::buffer();
     let n = os::arg(argument, &mut path);
     say_refused(&path[..n], refusal);
+    Status::Kernel
 }

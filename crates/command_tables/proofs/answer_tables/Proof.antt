@@ -1,14 +1,14 @@
 use Rattle.layouts.proofs.Units.{measured-in-limits}
 use Rattle.tables.proofs.Accepted.{table-facts}
 use borrow.Author.Needs.{needs}
-use Rattle.command_compare.proofs.accept_newer.Statement.{statement}
-use Rattle.command_compare.proofs.accept_newer.Tie as tie
+use Rattle.command_tables.proofs.answer_tables.Statement.{statement}
+use Rattle.command_tables.proofs.answer_tables.Tie as tie
 
 answer-requires : tie.Need-answer-requires
 answer-requires c κs = (search needs, search (table-facts, needs))
 
-pub accept-newer-spec : {M : Type 1} → statement M
-accept-newer-spec =
+pub answer-tables-spec : {M : Type 1} → statement M
+answer-tables-spec =
     tie.close
     (tie.spec
     (λ c κs. search needs)

@@ -1,11 +1,11 @@
 use Rattle.layouts.proofs.Units.{measured-in-limits}
 use Rattle.tables.proofs.Accepted.{table-facts}
 use borrow.Author.Needs.{needs}
-use Rattle.command_one.proofs.answer_tables.Statement.{statement}
-use Rattle.command_one.proofs.answer_tables.Tie as tie
+use Rattle.command_table.proofs.answer_table.Statement.{statement}
+use Rattle.command_table.proofs.answer_table.Tie as tie
 
-pub answer-tables-spec : {M : Type 1} → statement M
-answer-tables-spec =
+pub answer-table-spec : {M : Type 1} → statement M
+answer-table-spec =
     tie.close
     (tie.spec
     (λ c κs. search needs)

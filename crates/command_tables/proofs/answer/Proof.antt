@@ -1,7 +1,7 @@
 use borrow.Author.Needs.{needs}
 use Rattle.command_line.specs.Ready.{ready}
-use Rattle.command_compare.proofs.answer.Statement.{statement}
-use Rattle.command_compare.proofs.answer.Tie as tie
+use Rattle.command_tables.proofs.answer.Statement.{statement}
+use Rattle.command_tables.proofs.answer.Tie as tie
 
 pub answer-spec : {M : Type 1} → statement M
 answer-spec =
