@@ -15,7 +15,10 @@ pub fn write_help() -> bool {
     if !write_commands() {
         return false;
     }
-    write_words()
+    if !write_words() {
+        return false;
+    }
+    write_example()
 }
 
 fn write_lines(fd: i32) -> bool {
@@ -60,6 +63,20 @@ fn write_words() -> bool {
 Exit status: 0 every line was answered, by compare alike under both kernels;
 1 some line was not; 2 wrong usage; 3 a kernel is refused; 4 a file, standard
 input or standard output failed.
+",
+    )
+}
+
+fn write_example() -> bool {
+    io::write_all(
+        STDOUT_FILENO,
+        b"
+Example:
+
+  echo '1/60' | sclk time --seconds samples/this-year.tsc -731
+
+prints the encoded count 15360, the time 788961660.000000000 and the stamp
+1/0000000060.000.
 ",
     )
 }
