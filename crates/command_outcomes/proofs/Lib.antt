@@ -1,0 +1,2 @@
+-- A line that is too long, and the whole input.
+pub mod Whole

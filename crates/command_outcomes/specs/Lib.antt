@@ -1,0 +1,2 @@
+-- What the command writes of a whole input.
+pub mod Whole
