@@ -3,7 +3,7 @@
 import random
 
 from kernels import table
-from run import expect
+from run import Failure, expect
 
 # Two tables of which the newer succeeds the older, or not.
 ROWS = [(0, -1_000, 25_000), (600, 1_000, 30_000), (900, 3_000, 30_000)]
@@ -26,7 +26,7 @@ NUMBERS = [
 ]
 
 HEXED = [
-    b'', b'0', b'00', b'0002', b'0002312f30', b'0003312f30', b'0004312f30', b'00', b'ff', b'FF', b'0g', b'g0', b'0002 312f', b'0a' * 2_000, b'0a' * 2_000 + b'0', b'0a' * 2_000 + b'g', b'0' * 4_001, b'0' * 3_999, b'g' * 4_001, b'x' * 70_000, b'0002312f30\r', b'\r', b'\x00', b'00023',
+    b'', b'0', b'00', b'0002', b'312f300003', b'312f300002', b'312f300004', b'312F300003', b'00312f300003', b'00', b'ff', b'FF', b'0g', b'g0', b'312f 0002', b'0a' * 2_000, b'0a' * 2_000 + b'0', b'0a' * 2_000 + b'g', b'0' * 4_001, b'0' * 3_999, b'g' * 4_001, b'x' * 70_000, b'312f300003\r', b'\r', b'\x00', b'00023',
 ]
 
 
@@ -35,8 +35,8 @@ def random_lines(chosen, alphabet, count, longest):
 
 
 def message(text):
-    """A message that has this text."""
-    return len(text).to_bytes(2, 'big') + text
+    """A message that has this text: three bytes of payload, the text, its length."""
+    return b'\x01\x02\x03' + text + len(text).to_bytes(2, 'big')
 
 
 def test(sclk):
@@ -49,6 +49,7 @@ def test(sclk):
         small(ROWS[:2], ((0, 500), (200, 900), (0, 40))),
         small(ROWS[:2], ((0, 500), (200, 901))),
         small([ROWS[0], ROWS[1], (1_210, 10_000, 30_000)], ((0, 500), (200, 900), (0, 400))),
+        small([ROWS[0], ROWS[1], (1_210, 2_000, 30_000)], ((0, 500), (200, 900), (0, 400))),
         table(1, [100, 11], [(0, 500), (200, 900)], ROWS[:2]),
         table(1, [100, 10], [(0, 500), (200, 900)], ROWS[:2], delimiter=5),
         table(1, [100, 10], [(0, 500), (200, 900)], [(0, -1_000, 25_000), (600, -1_000 + 1_500, 30_000)], offsets=[3, 1]),
@@ -74,6 +75,12 @@ def test(sclk):
     sclk.beside('compare', '--seconds', older, others[0], '1', given=given(stamps))
     sclk.beside('compare', '--hex', older, newer, '1', given=given(hexed))
     sclk.beside('compare', '--hex', '--seconds', others[2], newer, '1', given=given(hexed))
+    # The lists are good for something: many messages are answered, and a pair of tables steps back at its seam.
+    answered = [line for line in sclk.run('time', '--hex', older, '1', given=given(hexed)).output.split(b'\n') if not line.startswith(b'refused')]
+    if len(answered) < 100:
+        raise Failure('only %d messages in hex are answered' % len(answered))
+    if not sclk.run('compare', older, others[6], '1', given=b'').output.startswith(b'succeeds\tno\tseam\t1\n'):
+        raise Failure('no pair of tables steps back at its seam')
     # Much input.
     many = given(random_lines(chosen, b'0123456789/:.', 100_000, 20))
     sclk.beside('time', k, '77', given=many)

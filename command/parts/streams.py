@@ -62,7 +62,7 @@ def cut(sclk):
     k = sclk.galileo
     chosen = random.Random(sclk.seed)
     given = b'1/0:0:0:0\r\n\n\r\r\n1/2.3.4\nx\n' + b'9' * 97 + b'\n' + b' 2/ 7 \r\n4/1' + b'\r'
-    hexed = b'0002312f\n\n0a\n' + b'0' * 4_001 + b'\nFf\r\n' + b'ab' * 2_000 + b'\n01'
+    hexed = b'312f300003\n\n0a\n' + b'0' * 4_001 + b'\nFf\r\n' + b'ab' * 2_000 + b'\n01'
     for words, text in ((['time', k, '77'], given), (['compare', k, k, '77'], given), (['stamp', k, '77'], b'5\n\n-1\n007\n12345678901234567890123\n8'), (['count', '--seconds', k, '77'], b'-322875915\n.5\n1.\n-3.14159265358979\n'), (['time', '--hex', k, '77'], hexed)):
         wanted = sclk.run(*words, given=text)
         expect(slowly(sclk, words, [text[i:i + 1] for i in range(len(text))]), wanted.status, wanted.output, b'')
