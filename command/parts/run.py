@@ -24,10 +24,10 @@ def encoded(words):
 
 
 class Sclk:
-    """The command under test, as users start it and as a program, and the program that it is compared with. All are run in `folder`."""
+    """The command under test, as users start it and as a program, and the program that it is compared with. All are run in `folder`, if no other is named."""
 
     def __init__(self, root, folder, started, program, second, seed):
-        self.folder, self.started, self.program, self.second, self.seed = folder, [started], [program], [second], seed
+        self.root, self.folder, self.started, self.program, self.second, self.seed = root, folder, [started], [program], [second], seed
         self.runs = 0
         self.galileo = os.path.join(root, KERNELS, 'galileo.tsc')
         self.surveyor = os.path.join(root, KERNELS, 'mars_global_surveyor.tsc')
@@ -35,14 +35,14 @@ class Sclk:
             self.help = stored.read()
         self.usage = self.help[:self.help.index(b'\n\n') + 1]
 
-    def start(self, program, words, **streams):
+    def start(self, program, words, folder=None, **streams):
         self.runs += 1
-        return subprocess.Popen(encoded(program) + encoded(words), cwd=self.folder, **streams)
+        return subprocess.Popen(encoded(program) + encoded(words), cwd=folder or self.folder, **streams)
 
-    def run(self, *words, given=b'', program=None):
+    def run(self, *words, given=b'', program=None, folder=None):
         """Runs the command with these words on these bytes."""
         pipe = subprocess.PIPE
-        process = self.start(program or self.program, words, stdin=pipe, stdout=pipe, stderr=pipe)
+        process = self.start(program or self.program, words, folder, stdin=pipe, stdout=pipe, stderr=pipe)
         output, errors = process.communicate(given)
         return Run(words, process.returncode, output, errors)
 

@@ -9,7 +9,11 @@ use std::path::Path;
 use std::process::{Command, Stdio};
 
 fn stored(program: &str, name: &str) -> Vec<u8> {
-    read(["../crates/", program, "/", name].concat()).unwrap()
+    stored_in(&["crates/", program].concat(), name)
+}
+
+fn stored_in(folder: &str, name: &str) -> Vec<u8> {
+    read(["../", folder, "/", name].concat()).unwrap()
 }
 
 #[test]
@@ -57,23 +61,23 @@ fn sclk(folder: &str, words: &[String], input: Stdio) -> (Vec<u8>, i32) {
 #[test]
 fn runs_of_the_command() {
     for run in RUNS {
-        let folder = format!("../crates/{}", run.program);
+        let folder = format!("../{}", run.folder);
         for source in run.data {
             let name = Path::new(source).file_name().unwrap().to_str().unwrap();
             assert!(
-                stored(run.program, &format!("data/{}", name)) == read(format!("../{}", source)).unwrap(),
+                stored_in(run.folder, &format!("data/{}", name)) == read(format!("../{}", source)).unwrap(),
                 "{}",
                 source
             );
         }
         if let Some(source) = run.input {
-            assert!(stored(run.program, "stdin") == read(format!("../{}", source)).unwrap(), "{}", source);
+            assert!(stored_in(run.folder, "stdin") == read(format!("../{}", source)).unwrap(), "{}", source);
         }
         let input = File::open(format!("{}/stdin", folder)).map_or(Stdio::null(), Stdio::from);
         let (printed, status) = sclk(&format!("{}/data", folder), &run.words(Path::new("..")).unwrap(), input);
-        assert!(stored(run.program, "stdout") == printed, "{}", run.program);
+        assert!(stored_in(run.folder, "stdout") == printed, "{}", run.folder);
         // Each of the others has lines that are refused.
-        assert_eq!(status, i32::from(run.program != "sclk_describe"), "{}", run.program);
+        assert_eq!(status, i32::from(run.folder != "crates/sclk_describe"), "{}", run.folder);
     }
 }
 
@@ -92,8 +96,8 @@ fn samples_of_the_command() {
 /// one without byte 10.
 #[test]
 fn what_the_runs_show() {
-    let outcomes = |program: &str| -> BTreeSet<String> {
-        let output = String::from_utf8(stored(program, "stdout")).unwrap();
+    let outcomes = |folder: &str| -> BTreeSet<String> {
+        let output = String::from_utf8(stored_in(folder, "stdout")).unwrap();
         let outcome = |line: &str| {
             let fields: Vec<&str> = line.split('\t').collect();
             match fields[..] {
@@ -107,43 +111,43 @@ fn what_the_runs_show() {
         };
         output.lines().map(outcome).collect()
     };
-    let shows = |program: &str, list: &str| {
+    let shows = |folder: &str, list: &str| {
         let expected: BTreeSet<String> = list.split(", ").map(str::to_string).collect();
-        assert_eq!(outcomes(program), expected, "{}", program);
-        let input = stored(program, "stdin");
+        assert_eq!(outcomes(folder), expected, "{}", folder);
+        let input = stored_in(folder, "stdin");
         let lines: Vec<&[u8]> = input.split(|&byte| byte == 10).collect();
-        if program != "sclk_compare" {
-            assert!(lines.iter().any(|line| line.ends_with(b"\r")) && lines.contains(&&b""[..]), "{}", program);
-            assert!(input.last() != Some(&10), "{}", program);
+        if folder != "crates/sclk_compare" {
+            assert!(lines.iter().any(|line| line.ends_with(b"\r")) && lines.contains(&&b""[..]), "{}", folder);
+            assert!(input.last() != Some(&10), "{}", folder);
         }
     };
     shows(
-        "sclk_time",
+        "crates/sclk_time",
         "answered, refused 4, refused 5, refused 6, refused 7, refused 9, refused 10, refused 11, refused 13",
     );
     shows(
-        "sclk_messages",
+        "command/runs/messages",
         "answered, refused 4, refused 5, refused 6, refused 7, refused 8, refused 9, refused 10, refused 11, refused 13, \
          refused 21, refused 22, refused 23",
     );
-    shows("sclk_stamp", "answered, refused 4, refused 5, refused 6, refused 12");
-    shows("sclk_count", "answered, refused 4, refused 5, refused 6, refused 13, refused 14, refused 20");
+    shows("crates/sclk_stamp", "answered, refused 4, refused 5, refused 6, refused 12");
+    shows("crates/sclk_count", "answered, refused 4, refused 5, refused 6, refused 13, refused 14, refused 20");
     shows(
-        "sclk_compare",
+        "crates/sclk_compare",
         "succeeds, horizon, same, same refused 5, same refused 13, older refuses 10, older refuses 11, refused 10 11",
     );
     shows(
-        "sclk_exchanged",
+        "command/runs/exchanged",
         "succeeds, horizon, same, same refused 4, same refused 5, same refused 6, same refused 7, same refused 9, \
          same refused 10, same refused 11, same refused 13, same refused 21, same refused 22, same refused 23, \
          newer refuses 10, newer refuses 11, refused 11 10",
     );
     shows(
-        "sclk_galileo",
+        "command/runs/galileo",
         "succeeds, horizon, same, differ, same refused 5, same refused 6, same refused 7, same refused 10, same refused 11",
     );
     shows(
-        "sclk_table_a",
+        "command/runs/table_a",
         "succeeds, horizon, same, same refused 4, same refused 5, same refused 6, same refused 7, same refused 9, \
          same refused 10, same refused 11, older refuses 10, older refuses 11, refused 10 11",
     );

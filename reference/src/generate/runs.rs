@@ -5,9 +5,11 @@ use std::path::Path;
 
 use crate::command::{self, Run};
 
-/// A program of `crates/`, which is run in its `data/` with the words of `args` and the lines of `stdin`.
+/// A run in a folder's `data/`, with the words of `args` and the lines of `stdin`. The folder is that of a program of `crates/`, or
+/// one of `command/runs`.
 pub struct StoredRun {
-    pub program: &'static str,
+    /// From the repository's root.
+    pub folder: &'static str,
     /// Whose copies the files of `data/` are, from the repository's root.
     pub data: &'static [&'static str],
     /// Whose copy `stdin` is, if it is one.
@@ -20,15 +22,15 @@ const GALILEO: &str = "reference/tests/kernels/galileo.tsc";
 
 #[rustfmt::skip]
 pub const RUNS: &[StoredRun] = &[
-    StoredRun { program: "sclk_time", data: &[THIS_YEAR], input: None },
-    StoredRun { program: "sclk_messages", data: &["reference/tests/kernels/offsets.tsc"], input: None },
-    StoredRun { program: "sclk_stamp", data: &[THIS_YEAR], input: None },
-    StoredRun { program: "sclk_count", data: &[THIS_YEAR], input: None },
-    StoredRun { program: "sclk_describe", data: &[GALILEO], input: None },
-    StoredRun { program: "sclk_compare", data: &[LAST_YEAR, THIS_YEAR], input: Some("samples/stamps.txt") },
-    StoredRun { program: "sclk_exchanged", data: &[LAST_YEAR, THIS_YEAR], input: None },
-    StoredRun { program: "sclk_galileo", data: &["reference/tests/kernels/galileo_cut.tsc", GALILEO], input: None },
-    StoredRun { program: "sclk_table_a", data: &["reference/tests/kernels/table_a_cut.tsc", "reference/tests/kernels/table_a.tsc"], input: None },
+    StoredRun { folder: "crates/sclk_time", data: &[THIS_YEAR], input: None },
+    StoredRun { folder: "command/runs/messages", data: &["reference/tests/kernels/offsets.tsc"], input: None },
+    StoredRun { folder: "crates/sclk_stamp", data: &[THIS_YEAR], input: None },
+    StoredRun { folder: "crates/sclk_count", data: &[THIS_YEAR], input: None },
+    StoredRun { folder: "crates/sclk_describe", data: &[GALILEO], input: None },
+    StoredRun { folder: "crates/sclk_compare", data: &[LAST_YEAR, THIS_YEAR], input: Some("samples/stamps.txt") },
+    StoredRun { folder: "command/runs/exchanged", data: &[LAST_YEAR, THIS_YEAR], input: None },
+    StoredRun { folder: "command/runs/galileo", data: &["reference/tests/kernels/galileo_cut.tsc", GALILEO], input: None },
+    StoredRun { folder: "command/runs/table_a", data: &["reference/tests/kernels/table_a_cut.tsc", "reference/tests/kernels/table_a.tsc"], input: None },
 ];
 
 /// What the command prints on the samples, in `samples/answers`: the words, and the file of standard input.
@@ -42,13 +44,13 @@ pub const SAMPLES: &[(&str, &str, &str)] = &[
 impl StoredRun {
     /// The words of `args`, one to a line.
     pub fn words(&self, root: &Path) -> Result<Vec<String>, String> {
-        let args = read(&root.join("crates").join(self.program).join("args"))?;
+        let args = read(&root.join(self.folder).join("args"))?;
         Ok(String::from_utf8_lossy(&args).lines().map(str::to_string).collect())
     }
 
     /// Copies what is a copy, and makes `stdout` again.
     pub fn write(&self, root: &Path) -> Result<(), String> {
-        let folder = root.join("crates").join(self.program);
+        let folder = root.join(self.folder);
         let data = folder.join("data");
         fs::create_dir_all(&data).map_err(|error| format!("{}: {}", data.display(), error))?;
         for source in self.data {

@@ -1,4 +1,0 @@
-// The operator's command, run for messages in hex, times in seconds.
-fn main() {
-    command::run();
-}
