@@ -1,0 +1,63 @@
+-- The promises of specs/Compared.antt.
+use Prim.Native.Nat.{ℕ, _<_}
+use native.Mathlib.Omega.{arith}
+use mathlib.Core.Path.{_≡_, refl}
+use mathlib.Core.Bool.{Bool, true, false}
+use mathlib.Core.List.{List}
+use mathlib.Core.Logic.{_⊎_, ⊎-elim}
+use lib.Dec.{eqb}
+use borrow.Author.Tests.{eq-eqb}
+use Rattle.base.proofs.Tests.{by-test, and-both}
+use Rattle.rules.specs.declared.Refusal.{Refusal}
+use Rattle.rules.specs.declared.TimedStamp.{TimedStamp}
+use Rattle.rules.specs.Answer.{Answer, answer, refused}
+use Rattle.rules.specs.Examples.{bytes}
+use Rattle.rules.proofs.Answers.{payload, not-answer}
+use Rattle.versions.specs.Versions.{Table, Agree, olderRefusesStamp}
+use Rattle.versions.proofs.Equal.{eq-eqZ}
+use Rattle.succession_outcomes.proofs.Succession.{succession-means}
+use Rattle.succession_outcomes.proofs.Horizon.{horizon-means}
+use Rattle.command_rules.specs.Fields.{field, lastField, refusalText}
+use Rattle.command_rules.specs.Lines.{bothFields, bothLine, refusedLine, compareLine, lineBy, lineOf}
+use Rattle.command_outcomes.specs.Compared.{comparison, comparedText, SaysSame, NotMisled, same, older-refuses, both-refuse, NoLineMisleads, SameBelowHorizon}
+use Rattle.command_outcomes.proofs.Agreement.{answerTo, lines-agree, older-reads-below, newer-reads-below}
+
+module _ (seconds : Bool) where
+  -- two answers that are one, and two refusals
+  both-same : (a b : TimedStamp) → b ≡ a → SaysSame (compareLine seconds (answer a) (answer b) .text)
+  unfolding compareLine bothLine
+  both-same a b e = (lastField (bothFields seconds a), rw (e, eq-eqb (a .count) (a .count) refl, eq-eqZ (a .time) (a .time) refl))
+
+  refused-both : (j k : Refusal) (t : Bool) → NotMisled (refusedLine j k t .text)
+  unfolding refusedLine
+  refused-both j k true = same (_, refl)
+  refused-both j k false = both-refuse _ refl
+
+  told : (a b : Answer TimedStamp) → Agree olderRefusesStamp a b → NotMisled (compareLine seconds a b .text)
+  unfolding compareLine
+  told (answer a) (answer b) h = same (both-same a b (payload (h .same a refl)))
+  told (answer a) (refused k) h = absurd (not-answer (h .same a refl))
+  told (refused j) (answer b) h = older-refuses j _ (h .refuses b j refl refl) refl
+  told (refused j) (refused k) h = refused-both j k (eqb (j .number) (k .number))
+
+  one-answer : (a : Answer TimedStamp) → SaysSame (compareLine seconds a a .text)
+  unfolding compareLine refusedLine
+  one-answer (answer a) = both-same a a refl
+  one-answer (refused k) = (field (bytes "refused") (lastField (refusalText k)), rw (eq-eqb (k .number) (k .number) refl))
+
+-- what is printed is the comparison of the two answers
+printed : (hex seconds : Bool) (older newer : Table) (l : List ℕ) → comparedText hex seconds older newer l ≡ compareLine seconds (answerTo hex older l) (answerTo hex newer l) .text
+unfolding lineOf lineBy answerTo
+printed false seconds older newer l = refl
+printed true seconds older newer l = refl
+
+pub no-line-misleads : NoLineMisleads
+no-line-misleads older newer q hex seconds l =
+    rw (printed hex seconds older newer l)
+    (told seconds (answerTo hex older l) (answerTo hex newer l) (lines-agree older newer (succession-means older newer .demand-3 q) hex l))
+
+pub same-below-horizon : SameBelowHorizon
+same-below-horizon older newer h is hex seconds l r b reads =
+    let w = horizon-means older newer .agree h is in
+    let one : answerTo hex newer l ≡ answerTo hex older l = ⊎-elim (older-reads-below older newer h w hex l r (omega arith)) (newer-reads-below older newer h w hex l r (omega arith)) reads in
+    rw (printed hex seconds older newer l, one) (one-answer seconds (answerTo hex older l))
