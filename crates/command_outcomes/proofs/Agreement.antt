@@ -1,7 +1,6 @@
 -- The calls of a comparison under two tables: reading, and then the time, of a line.
 use Prim.Native.Nat.{ℕ, _<_}
-use native.Mathlib.Omega.{arith}
-use mathlib.Core.Path.{_≡_, refl, sym, _∙_}
+use mathlib.Core.Path.{_≡_, refl}
 use mathlib.Core.Bool.{Bool, true, false}
 use mathlib.Core.List.{List, [], _∷_}
 use lib.Dec.{eqb}
@@ -99,7 +98,7 @@ unfolding readMessage acceptedMessage
 message-keeps t u m r f h = unless-keeps r 21 _ (unless-keeps r 22 _ (unless-keeps r 23 _ f)) h
 
 -- so is a line
-line-keeps : (t u : Table) (r : Reading) → ((s : List ℕ) → readBy t s ≡ answer r → readBy u s ≡ answer r)
+pub line-keeps : (t u : Table) (r : Reading) → ((s : List ℕ) → readBy t s ≡ answer r → readBy u s ≡ answer r)
     → (hex : Bool) (l : List ℕ) → readLine hex t l ≡ answer r → readLine hex u l ≡ answer r
 unfolding readLine
 line-keeps t u r f false l h = f (withoutReturn l) h
@@ -110,12 +109,19 @@ unfolding andThen
 then-then (answer x) f g = refl
 then-then (refused k) f g = refl
 
--- the answer to a line that is read
+-- the time of a reading
+unfoldable pub timedBy : Table → Reading → Answer TimedStamp
+timedBy t r = withTime (r .count) (timeBy t (r .count))
+
+-- a line is read, and then timed
+pub answer-is : (t : Table) (hex : Bool) (l : List ℕ) → answerTo hex t l ≡ andThen (readLine hex t l) (timedBy t)
+unfolding answerTo readLine messageBy timeOfStamp timeOfMessage timedBy
+answer-is t false l = refl
+answer-is t true l = then-then (readHex (withoutReturn l)) (readMessage (t .layout) (t .partitions)) (λ r. withTime (r .count) (timeBy t (r .count)))
+
 read-answer : (t : Table) (hex : Bool) (l : List ℕ) (r : Reading) → readLine hex t l ≡ answer r → answerTo hex t l ≡ withTime (r .count) (timeBy t (r .count))
-unfolding answerTo readLine messageBy timeOfStamp timeOfMessage andThen
-read-answer t false l r h = rw h
-read-answer t true l r h =
-    then-then (readHex (withoutReturn l)) (readMessage (t .layout) (t .partitions)) (λ r. withTime (r .count) (timeBy t (r .count))) ∙ rw h
+unfolding andThen timedBy
+read-answer t hex l r h = rw (answer-is t hex l, h)
 
 module _ (older newer : Table) (h : ℕ) (w : AgreeBelow older newer h) (hex : Bool) (l : List ℕ) (r : Reading) where
   both-read : r .count < h → readLine hex older l ≡ answer r → readLine hex newer l ≡ answer r → answerTo hex newer l ≡ answerTo hex older l

@@ -1,16 +1,16 @@
 -- The promises of specs/Compared.antt.
-use Prim.Native.Nat.{ℕ, _<_}
+use Prim.Native.Nat.{ℕ}
 use native.Mathlib.Omega.{arith}
 use mathlib.Core.Path.{_≡_, refl}
 use mathlib.Core.Bool.{Bool, true, false}
 use mathlib.Core.List.{List}
-use mathlib.Core.Logic.{_⊎_, ⊎-elim}
+use mathlib.Core.Logic.{⊎-elim}
 use lib.Dec.{eqb}
 use borrow.Author.Tests.{eq-eqb}
-use Rattle.base.proofs.Tests.{by-test, and-both}
 use Rattle.rules.specs.declared.Refusal.{Refusal}
 use Rattle.rules.specs.declared.TimedStamp.{TimedStamp}
-use Rattle.rules.specs.Answer.{Answer, answer, refused}
+use Rattle.rules.specs.Answer.{Answer, answer, refused, numbered}
+use Rattle.rules.specs.Partitions.{totalOf}
 use Rattle.rules.specs.Examples.{bytes}
 use Rattle.rules.proofs.Answers.{payload, not-answer}
 use Rattle.versions.specs.Versions.{Table, Agree, olderRefusesStamp}
@@ -19,8 +19,9 @@ use Rattle.succession_outcomes.proofs.Succession.{succession-means}
 use Rattle.succession_outcomes.proofs.Horizon.{horizon-means}
 use Rattle.command_rules.specs.Fields.{field, lastField, refusalText}
 use Rattle.command_rules.specs.Lines.{bothFields, bothLine, refusedLine, compareLine, lineBy, lineOf}
-use Rattle.command_outcomes.specs.Compared.{comparison, comparedText, SaysSame, NotMisled, same, older-refuses, both-refuse, NoLineMisleads, SameBelowHorizon}
+use Rattle.command_outcomes.specs.Compared.{comparedText, SaysSame, NotMisled, says-same, older-refuses, both-refuse, NoLineMisleads, SameBelowHorizon}
 use Rattle.command_outcomes.proofs.Agreement.{answerTo, lines-agree, older-reads-below, newer-reads-below}
+use Rattle.command_outcomes.proofs.Refused.{TenEleven, answers-pair}
 
 module _ (seconds : Bool) where
   -- two answers that are one, and two refusals
@@ -28,17 +29,17 @@ module _ (seconds : Bool) where
   unfolding compareLine bothLine
   both-same a b e = (lastField (bothFields seconds a), rw (e, eq-eqb (a .count) (a .count) refl, eq-eqZ (a .time) (a .time) refl))
 
-  refused-both : (j k : Refusal) (t : Bool) → NotMisled (refusedLine j k t .text)
+  refused-both : (j k : Refusal) (t : Bool) → (t ≡ false → (j ≡ numbered 10) × (k ≡ numbered 11)) → NotMisled (refusedLine j k t .text)
   unfolding refusedLine
-  refused-both j k true = same (_, refl)
-  refused-both j k false = both-refuse _ refl
+  refused-both j k true h = says-same (_, refl)
+  refused-both j k false h = both-refuse (rw (h refl .0, h refl .1))
 
-  told : (a b : Answer TimedStamp) → Agree olderRefusesStamp a b → NotMisled (compareLine seconds a b .text)
+  told : (a b : Answer TimedStamp) → Agree olderRefusesStamp a b → TenEleven a b → NotMisled (compareLine seconds a b .text)
   unfolding compareLine
-  told (answer a) (answer b) h = same (both-same a b (payload (h .same a refl)))
-  told (answer a) (refused k) h = absurd (not-answer (h .same a refl))
-  told (refused j) (answer b) h = older-refuses j _ (h .refuses b j refl refl) refl
-  told (refused j) (refused k) h = refused-both j k (eqb (j .number) (k .number))
+  told (answer a) (answer b) h w = says-same (both-same a b (payload (h .same a refl)))
+  told (answer a) (refused k) h w = absurd (not-answer (h .same a refl))
+  told (refused j) (answer b) h w = older-refuses j _ (h .refuses b j refl refl) refl
+  told (refused j) (refused k) h w = refused-both j k (eqb (j .number) (k .number)) (w j k refl refl)
 
   one-answer : (a : Answer TimedStamp) → SaysSame (compareLine seconds a a .text)
   unfolding compareLine refusedLine
@@ -53,8 +54,11 @@ printed true seconds older newer l = refl
 
 pub no-line-misleads : NoLineMisleads
 no-line-misleads older newer q hex seconds l =
+    let means = succession-means older newer in
+    let d = means .demand-3 q in
+    let w = horizon-means older newer .agree (totalOf (older .partitions)) (horizon-means older newer .whole q) in
     rw (printed hex seconds older newer l)
-    (told seconds (answerTo hex older l) (answerTo hex newer l) (lines-agree older newer (succession-means older newer .demand-3 q) hex l))
+    (told seconds (answerTo hex older l) (answerTo hex newer l) (lines-agree older newer d hex l) (answers-pair older newer (means .yes q) d w hex l))
 
 pub same-below-horizon : SameBelowHorizon
 same-below-horizon older newer h is hex seconds l r b reads =

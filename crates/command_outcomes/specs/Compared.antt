@@ -7,7 +7,7 @@ use mathlib.Core.Logic.{_⊎_}
 use Rattle.base.specs.Scans.{among}
 use Rattle.rules.specs.declared.Reading.{Reading}
 use Rattle.rules.specs.declared.Refusal.{Refusal}
-use Rattle.rules.specs.Answer.{Answer, answer, andThen}
+use Rattle.rules.specs.Answer.{Answer, answer, numbered, andThen}
 use Rattle.rules.specs.Message.{readMessage}
 use Rattle.rules.specs.Examples.{bytes}
 use Rattle.versions.specs.Versions.{Table, readBy, olderRefusesStamp}
@@ -16,7 +16,7 @@ use Rattle.succession_rules.specs.Succession.{succeeds, succession}
 use Rattle.succession_rules.specs.Horizon.{horizonOf}
 use Rattle.command_rules.specs.declared.Query.{Query}
 use Rattle.command_rules.specs.declared.Query.the-variants as Asked
-use Rattle.command_rules.specs.Fields.{field, refusalText}
+use Rattle.command_rules.specs.Fields.{field, lastField, refusalText}
 use Rattle.command_rules.specs.Input.{withoutReturn, readHex}
 use Rattle.command_rules.specs.Lines.{lineText}
 
@@ -41,19 +41,19 @@ SaysSame text = (rest : List ℕ) × (text ≡ field (bytes "same") rest)
 -- Nothing but these three: neither `differ` nor `newer refuses`.
 pub data NotMisled (text : List ℕ) : Type 0 where
   -- "Where the older answers, the newer gives the same answer"; or both refuse with one number
-  same : SaysSame text → NotMisled text
+  says-same : SaysSame text → NotMisled text
   -- "Where only the newer answers, the older refuses: a stamp with 10 or 11"
   older-refuses : (k : Refusal) (rest : List ℕ) → among (k .number) olderRefusesStamp ≡ true → text ≡ field (bytes "older refuses") (field (refusalText k) rest) → NotMisled text
-  -- both refuse, with two numbers
-  both-refuse : (rest : List ℕ) → text ≡ field (bytes "refused") rest → NotMisled text
+  -- both refuse with two numbers: the older has no such partition, and the newer's does not hold the count
+  both-refuse : text ≡ field (bytes "refused") (field (refusalText (numbered 10)) (lastField (refusalText (numbered 11)))) → NotMisled text
 
--- "An older table never misleads about a newer stamp": where `succeeds` says yes, no line does.
+-- "An older table never misleads about a newer stamp": where `succeeds` says yes, of two tables that it accepts, no line does.
 abbrev pub NoLineMisleads : Type 0
 NoLineMisleads =
     (older newer : Table) → succession older newer ≡ answered succeeds
     → (hex seconds : Bool) (l : List ℕ) → NotMisled (comparedText hex seconds older newer l)
 
--- "a stamp that either table reads to a count below it": every such line says `same`, whatever `succeeds` says.
+-- "a stamp that either table reads to a count below it": such a line says `same`, also where `succeeds` says no.
 abbrev pub SameBelowHorizon : Type 0
 SameBelowHorizon =
     (older newer : Table) (h : ℕ) → horizonOf older newer ≡ answered h
