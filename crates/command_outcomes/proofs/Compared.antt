@@ -3,7 +3,7 @@ use Prim.Native.Nat.{ℕ}
 use native.Mathlib.Omega.{arith}
 use mathlib.Core.Path.{_≡_, refl}
 use mathlib.Core.Bool.{Bool, true, false}
-use mathlib.Core.List.{List}
+use mathlib.Core.List.{List, _∷_}
 use mathlib.Core.Logic.{⊎-elim}
 use lib.Dec.{eqb}
 use borrow.Author.Tests.{eq-eqb}
@@ -15,11 +15,13 @@ use Rattle.rules.specs.Examples.{bytes}
 use Rattle.rules.proofs.Answers.{payload, not-answer}
 use Rattle.versions.specs.Versions.{Table, Agree, olderRefusesStamp}
 use Rattle.versions.proofs.Equal.{eq-eqZ}
+use Rattle.succession_rules.specs.OfTwo.{answered}
+use Rattle.succession_rules.specs.Succession.{succeeds, succession}
 use Rattle.succession_outcomes.proofs.Succession.{succession-means}
 use Rattle.succession_outcomes.proofs.Horizon.{horizon-means}
 use Rattle.command_rules.specs.Fields.{field, lastField, refusalText}
 use Rattle.command_rules.specs.Lines.{bothFields, bothLine, refusedLine, compareLine, lineBy, lineOf}
-use Rattle.command_outcomes.specs.Compared.{comparedText, SaysSame, NotMisled, says-same, older-refuses, both-refuse, NoLineMisleads, SameBelowHorizon}
+use Rattle.command_outcomes.specs.Compared.{comparedText, SaysSame, NotMisled, says-same, older-refuses, both-refuse, TwoWordsMislead, NoLineMisleads, SameBelowHorizon}
 use Rattle.command_outcomes.proofs.Agreement.{answerTo, lines-agree, older-reads-below, newer-reads-below}
 use Rattle.command_outcomes.proofs.Refused.{TenEleven, answers-pair}
 
@@ -52,13 +54,33 @@ unfolding lineOf lineBy answerTo
 printed false seconds older newer l = refl
 printed true seconds older newer l = refl
 
+-- a text begins with one byte
+first-byte : {a b : ℕ} {s r : List ℕ} → (a ∷ s) ≡ (b ∷ r) → a ≡ b
+first-byte e = cc
+
+differs : (rest : List ℕ) → NotMisled (field (bytes "differ") rest) → ⊥
+unfolding bytes
+differs rest (says-same (r, e)) = let z : _≡_ {A = ℕ} 100 115 = first-byte e in omega arith
+differs rest (older-refuses k r h e) = let z : _≡_ {A = ℕ} 100 111 = first-byte e in omega arith
+differs rest (both-refuse e) = let z : _≡_ {A = ℕ} 100 114 = first-byte e in omega arith
+
+newer-refuses : (rest : List ℕ) → NotMisled (field (bytes "newer refuses") rest) → ⊥
+unfolding bytes
+newer-refuses rest (says-same (r, e)) = let z : _≡_ {A = ℕ} 110 115 = first-byte e in omega arith
+newer-refuses rest (older-refuses k r h e) = let z : _≡_ {A = ℕ} 110 111 = first-byte e in omega arith
+newer-refuses rest (both-refuse e) = let z : _≡_ {A = ℕ} 110 114 = first-byte e in omega arith
+
+pub two-words-mislead : TwoWordsMislead
+two-words-mislead rest = (differs rest, newer-refuses rest)
+
 pub no-line-misleads : NoLineMisleads
 no-line-misleads older newer q hex seconds l =
+    let said : succession older newer ≡ answered succeeds = cc in
     let means = succession-means older newer in
-    let d = means .demand-3 q in
-    let w = horizon-means older newer .agree (totalOf (older .partitions)) (horizon-means older newer .whole q) in
+    let d = means .demand-3 said in
+    let w = horizon-means older newer .agree (totalOf (older .partitions)) (horizon-means older newer .whole said) in
     rw (printed hex seconds older newer l)
-    (told seconds (answerTo hex older l) (answerTo hex newer l) (lines-agree older newer d hex l) (answers-pair older newer (means .yes q) d w hex l))
+    (told seconds (answerTo hex older l) (answerTo hex newer l) (lines-agree older newer d hex l) (answers-pair older newer (means .yes said) d w hex l))
 
 pub same-below-horizon : SameBelowHorizon
 same-below-horizon older newer h is hex seconds l r b reads =

@@ -38,7 +38,7 @@ readLine true t l = andThen (readHex (withoutReturn l)) (readMessage (t .layout)
 abbrev pub SaysSame : List ℕ → Type 0
 SaysSame text = (rest : List ℕ) × (text ≡ field (bytes "same") rest)
 
--- Nothing but these three: neither `differ` nor `newer refuses`.
+-- One of these three.
 pub data NotMisled (text : List ℕ) : Type 0 where
   -- "Where the older answers, the newer gives the same answer"; or both refuse with one number
   says-same : SaysSame text → NotMisled text
@@ -46,6 +46,10 @@ pub data NotMisled (text : List ℕ) : Type 0 where
   older-refuses : (k : Refusal) (rest : List ℕ) → among (k .number) olderRefusesStamp ≡ true → text ≡ field (bytes "older refuses") (field (refusalText k) rest) → NotMisled text
   -- both refuse with two numbers: the older has no such partition, and the newer's does not hold the count
   both-refuse : text ≡ field (bytes "refused") (field (refusalText (numbered 10)) (lastField (refusalText (numbered 11)))) → NotMisled text
+
+-- So neither `differ` nor `newer refuses`.
+abbrev pub TwoWordsMislead : Type 0
+TwoWordsMislead = (rest : List ℕ) → (NotMisled (field (bytes "differ") rest) → ⊥) × (NotMisled (field (bytes "newer refuses") rest) → ⊥)
 
 -- "An older table never misleads about a newer stamp": where `succeeds` says yes, of two tables that it accepts, no line does.
 abbrev pub NoLineMisleads : Type 0
