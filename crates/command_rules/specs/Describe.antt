@@ -31,7 +31,7 @@ countBelow p n = sumBelow (λ i. cond (p i) 1 0) n
 unfoldable pub numberLine : List ℕ → ℕ → List ℕ
 numberLine name x = field name (lastField (decimalOf x))
 
--- document 01's time systems
+-- "The time systems and codes currently in use": TDB 1 and TDT 2 (document 003)
 unfoldable pub systemName : ℕ → List ℕ
 systemName code = cond (eqb code 1) (bytes "TDB") (bytes "TDT")
 
