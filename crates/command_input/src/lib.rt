@@ -12,7 +12,7 @@ const LINE_RETURN: u8 = 13;
 
 const LONGEST_HEX: usize = 4_000;
 
-// A message in hex: how many bytes of the lent buffer it has.
+// What a text in hex gives: how many bytes the message has that stands at the front of the lent buffer, or why there is none.
 pub enum HexGiven {
     Length(usize),
     Refused(Refusal),
@@ -33,7 +33,7 @@ pub fn text_length(line: &[u8]) -> usize
     n
 }
 
-// The message goes to the front of the lent buffer. A refusal leaves it.
+// Reads a message in hex into the front of the lent buffer, which has room for the longest. Of a text that is refused no byte is written.
 pub fn read_hex(text: &[u8], message: &mut [u8]) -> HexGiven
     requires { ⌜ length (now message) ≡ longestMessage ⌝ }
     ensures { λ r. ⌜ hexAnswer r (now (message .exit)) ≡ readHex (now (text .entry)) ⌝ }
