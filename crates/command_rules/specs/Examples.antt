@@ -12,18 +12,18 @@ use Rattle.rules.specs.Partitions.{partitions}
 use Rattle.rules.specs.Segments.{segments}
 use Rattle.rules.specs.Examples.{bytes, layoutB}
 use Rattle.versions.specs.Versions.{Table}
-use Rattle.versions.specs.Needed.{table, cutA, tableA}
+use Rattle.versions.specs.Needed.{table, tableA}
 use Rattle.command_rules.specs.declared.Query.{Query}
 use Rattle.command_rules.specs.declared.Query.the-variants as Asked
-use Rattle.command_rules.specs.Fields.{field, lastField, refusalText}
+use Rattle.command_rules.specs.Fields.{lastField, refusalText}
 use Rattle.command_rules.specs.Lines.{Line, lineOf}
 use Rattle.command_rules.specs.Computing.{command}
 
--- fields with tabs between them and byte 10 behind
+-- fields with tabs, byte 9, between them and byte 10 behind
 unfoldable pub row : List String → List ℕ
 row [] = []
-row (s ∷ []) = lastField (bytes s)
-row (s ∷ t ∷ ss) = field (bytes s) (row (t ∷ ss))
+row (s ∷ []) = bytes s ++ (10 ∷ [])
+row (s ∷ t ∷ ss) = bytes s ++ (9 ∷ row (t ∷ ss))
 
 pub record Case : Type 0 where
   pub asked : Query
@@ -72,7 +72,7 @@ tableFive = table layoutFive (partitions (0 ∷ []) (99_999 ∷ [])) (segments (
 
 unfoldable pub groups : List Group
 groups =
-    group tableA cutA
+    group tableA tableB
     -- a stamp, with a byte 13 behind it, in seconds; 96 bytes and 97
     (good Asked.Time false (bytes "1/5.3") ("53" ∷ "-867" ∷ "1/05.3" ∷ [])
     ∷ good Asked.Time true (bytes "1/5.3" ++ (13 ∷ [])) ("53" ∷ "-0.000000867" ∷ "1/05.3" ∷ [])
@@ -88,7 +88,8 @@ groups =
     ∷ bad Asked.Time false (replicate 96 57) ("refused" ∷ "9" ∷ "0" ∷ "a number that is too large" ∷ [])
     ∷ bad Asked.Time false (bytes "3/1") ("refused" ∷ "10" ∷ "-" ∷ "no such partition" ∷ [])
     ∷ bad Asked.Time false (bytes "1/50.1") ("refused" ∷ "11" ∷ "-" ∷ "the count is in no such partition" ∷ [])
-    -- the message `1/5.3`, in hex of either case, and behind 1,993 bytes of 0: 4,000 digits, with a byte 13 too
+    -- the messages `50.1` and `1/5.3`, the latter in hex of either case, and behind 1,993 bytes of 0: 4,000 digits, with a byte 13 too
+    ∷ good Asked.Messages false (bytes "35302e310004") ("801" ∷ "1603" ∷ "2/50.1" ∷ [])
     ∷ good Asked.Messages false (bytes "312F352e330005") ("53" ∷ "-867" ∷ "1/05.3" ∷ [])
     ∷ good Asked.Messages true (replicate 3_986 48 ++ bytes "312f352e330005") ("53" ∷ "-0.000000867" ∷ "1/05.3" ∷ [])
     ∷ bad Asked.Messages false (replicate 4_000 48 ++ (13 ∷ [])) ("refused" ∷ "22" ∷ "-" ∷ "a message without a text" ∷ [])
@@ -143,6 +144,8 @@ groups =
     ∷ good Asked.Count true (bytes "0." ++ replicate 94 48) ("400" ∷ [])
     ∷ bad Asked.Count true (bytes "0." ++ replicate 95 48) ("refused" ∷ "4" ∷ "-" ∷ "the text is too long" ∷ [])
     ∷ bad Asked.Count true (replicate 97 120) ("refused" ∷ "4" ∷ "-" ∷ "the text is too long" ∷ [])
+    ∷ bad Asked.Count true (bytes "1e3") ("refused" ∷ "5" ∷ "1" ∷ "a byte that is not allowed" ∷ [])
+    ∷ bad Asked.Count true (bytes "-1-.5") ("refused" ∷ "5" ∷ "2" ∷ "a byte that is not allowed" ∷ [])
     ∷ bad Asked.Count true (bytes "0.0.0") ("refused" ∷ "5" ∷ "3" ∷ "a byte that is not allowed" ∷ [])
     ∷ bad Asked.Count true (bytes "-.x") ("refused" ∷ "5" ∷ "2" ∷ "a byte that is not allowed" ∷ [])
     ∷ bad Asked.Count true (bytes "-.5") ("refused" ∷ "6" ∷ "-" ∷ "the first field is missing" ∷ [])
@@ -153,7 +156,7 @@ groups =
     ∷ bad Asked.Count true (bytes "-4000000000") ("refused" ∷ "13" ∷ "-" ∷ "before the first segment" ∷ [])
     ∷ [])
     -- an offset, another delimiter and whole seconds: 985,855,967 ticks of 1/48,000 s
-    ∷ group tableB tableB
+    ∷ group tableB tableA
     (good Asked.Time false (bytes "20538:39:768") ("985855967" ∷ "788982198665979167" ∷ "1/20538:39:768" ∷ [])
     ∷ good Asked.Time true (bytes "20538:39:768") ("985855967" ∷ "788982198.665979167" ∷ "1/20538:39:768" ∷ [])
     ∷ good Asked.Time true (bytes "1/0") ("0" ∷ "788961660.000000000" ∷ "1/00000:00:001" ∷ [])
@@ -164,7 +167,7 @@ groups =
     ∷ good Asked.Count true (bytes "0788961660") ("0" ∷ [])
     ∷ [])
     -- the stamp `1/1:2,3-4.5` of 11 bytes: each letter of hex in either case
-    ∷ group tableFive tableFive
+    ∷ group tableFive tableA
     (good Asked.Messages false (bytes "312F313A322C332D342E35000B") ("12345" ∷ "12345000" ∷ "1/1-2-3-4-5" ∷ [])
     ∷ good Asked.Messages false (bytes "312f313a322c332d342e35000b") ("12345" ∷ "12345000" ∷ "1/1-2-3-4-5" ∷ [])
     ∷ [])
