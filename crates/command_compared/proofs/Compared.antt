@@ -1,7 +1,7 @@
 -- The lines of a comparison put together of their fields.
 use Prim.Native.Nat.{ℕ, _+_, _≤_}
 use mathlib.Core.Path.{_≡_, refl, sym, ap, _∙_}
-use mathlib.Core.Bool.{Bool, true, false, _&&_}
+use mathlib.Core.Bool.{Bool, true, false, _&&_, and-true, and-false}
 use mathlib.Core.List.{List, [], _∷_, _++_, append-assoc}
 use lib.IntN.{ℤ}
 use lib.Dec.{eqb}
@@ -25,14 +25,6 @@ use Rattle.command_rules.specs.Fields.{field, lastField, differenceText, refusa
 use Rattle.command_rules.specs.Lines.{bothFields, bothLine, refusedLine, compareLine}
 use Rattle.command_answers.specs.declared.Put.{Put}
 use Rattle.command_answers.specs.Put.{longestLine, PutLine}
-
-and-true : (x : Bool) → (x && true) ≡ x
-and-true true = refl
-and-true false = refl
-
-and-false : (x : Bool) → (x && false) ≡ false
-and-false true = refl
-and-false false = refl
 
 -- whether two answers are the same; a time is its bits in the code
 module _ (a b : TimedStamp) where

@@ -1,7 +1,7 @@
 -- The lines of a chunk, one by one.
 use Prim.Native.Nat.{ℕ, suc, _+_, _-_, _≤_, _<_, min}
 use mathlib.Core.Path.{_≡_, refl, sym, ap, _∙_}
-use mathlib.Core.Bool.{Bool, true, false, cond, _&&_}
+use mathlib.Core.Bool.{Bool, true, false, cond, _&&_, and-true}
 use mathlib.Core.List.{List, [], _∷_}
 use lib.ListN.{length, take}
 use lib.Seq.{slice}
@@ -26,10 +26,6 @@ and-well well p h = rw h
 pub not-well : (well : Bool) (p : Put) → well ≡ false → _≡_ {A = Put} (record { at = p .at; well = false }) (record { at = p .at; well = well && p .well })
 not-well well p h = rw h
 
-and-true : (x : Bool) → x ≡ (x && true)
-and-true true = refl
-and-true false = refl
-
 -- a line that has ended, and one that has not
 module _ (q : Query) (seconds : Bool) (o n : Table) (ended : Bool) (l : List ℕ) (at : ℕ) (well : Bool) where
   pub ended-put : (p r : Put) {entry exit : List ℕ} → ended ≡ true → PutLine (lineOf q seconds o n l) p at entry exit → r ≡ record { at = p .at; well = well && p .well }
@@ -46,7 +42,7 @@ module _ (q : Query) (seconds : Bool) (o n : Table) (ended : Bool) (l : List ℕ
   pub open-put : (b : List ℕ) → ended ≡ false → EndedLine (lineText q seconds o n) (lineWell q seconds o n) ended l (record { at = at; well = well }) at b b well
   unfolding endedAnswer endedLine
   open-put b h =
-      rw h (record { text = nothing-written at b; still-well = and-true well ∙ ap (λ (x : Bool). well && x) (sym (well-none (lineWell q seconds o n))); short = omega arith })
+      rw h (record { text = nothing-written at b; still-well = sym (and-true well) ∙ ap (λ (x : Bool). well && x) (sym (well-none (lineWell q seconds o n))); short = omega arith })
 
 -- the end of input
 some-line : (b : ℕ) (l : List ℕ) → lastLine (b ∷ l) ≡ (b ∷ l) ∷ []

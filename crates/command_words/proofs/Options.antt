@@ -1,7 +1,7 @@
 -- Whether a word begins with `--`, and what a word behind the command is.
 use Prim.Native.Nat.{ℕ, _≤_, _<_}
-use mathlib.Core.Path.{_≡_, refl, _∙_}
-use mathlib.Core.Bool.{Bool, true, false, _&&_}
+use mathlib.Core.Path.{_≡_, refl, sym, _∙_}
+use mathlib.Core.Bool.{Bool, true, false, and-true, and-false}
 use mathlib.Core.List.{List, [], _∷_}
 use lib.Dec.{eqb}
 use lib.ListN.{length, getD}
@@ -16,11 +16,7 @@ use Rattle.command_words.specs.Words.{isOption, optionOf, longestWord, l
 pub too-short : (w : List ℕ) → length w < 2 → false ≡ isOption w
 unfolding isOption same bytes
 too-short [] h = refl
-too-short (b ∷ []) h = and-none (eqb b 45)
-  where
-    and-none : (t : Bool) → false ≡ (t && false)
-    and-none true = refl
-    and-none false = refl
+too-short (b ∷ []) h = sym (and-false (eqb b 45))
 too-short (b ∷ d ∷ w) h = absurd (omega arith)
 
 pub not-first : (w : List ℕ) → (getD w 0 0 ≡ 45 → ⊥) → false ≡ isOption w
@@ -32,11 +28,7 @@ pub by-second : (w : List ℕ) → 2 ≤ length w → getD w 0 0 ≡ 45 → eqb 
 unfolding isOption same bytes
 by-second [] l h = absurd (omega arith)
 by-second (b ∷ []) l h = absurd (omega arith)
-by-second (b ∷ d ∷ w) l h = rw (eq-eqb b 45 h) (and-true (eqb d 45))
-  where
-    and-true : (t : Bool) → t ≡ (t && true)
-    and-true true = refl
-    and-true false = refl
+by-second (b ∷ d ∷ w) l h = rw (eq-eqb b 45 h) (sym (and-true (eqb d 45)))
 
 module _ (w : List ℕ) where
   pub too-long : longestWord < length w → Later.Unknown ≡ laterOf w

@@ -1,28 +1,20 @@
 -- The lines of a chunk and their answers.
 use Prim.Native.Nat.{ℕ, suc, _+_, _-_, _≤_, _<_, min}
 use mathlib.Core.Path.{_≡_, refl, sym, ap, _∙_}
-use mathlib.Core.Bool.{Bool, true, false, cond, _&&_}
+use mathlib.Core.Bool.{Bool, true, false, cond, _&&_, and-true, and-assoc}
 use mathlib.Core.List.{List, [], _∷_, _++_, flatten, append-nil, append-assoc}
-use lib.ListN.{length, take, drop, replicate, length-take, length-replicate, take-append-drop}
+use lib.ListN.{length, take, drop, replicate, length-take, length-replicate, take-append-drop, drop-of-length-le}
 use lib.Seq.{slice, slice-empty, take-add, drop-append-le, length-take-le}
 use native.Mathlib.Omega.{arith}
 use Rattle.base.specs.Scans.{allOf}
 use Rattle.lines.specs.declared.LineStep.{LineStep}
 use Rattle.lines.specs.Steps.{Carried, carried, fed, lineLeft, lastLine, takenIn, nextLine, lineAfter, carriedOn}
 use Rattle.lines.proofs.Whole.{fed-join}
-use Rattle.lines.proofs.Turn.{step-fed, kept-now, left-alone}
+use Rattle.lines.proofs.Turn.{step-fed, kept-now, left-alone, ended-after}
 use Rattle.decimal.specs.Writing.{Written}
 use Rattle.decimal.proofs.LeftToRight.{nothing-written, written-then}
 use Rattle.line_output.specs.Output.{answersOf, wellOf}
 use Rattle.line_output.specs.Pieces.{endedIn, pieceAnswers, lastAnswer, endedLine, endedAnswer, Answered}
-
-and-true : (a : Bool) → (a && true) ≡ a
-and-true true = refl
-and-true false = refl
-
-pub and-assoc : (a b c : Bool) → (a && (b && c)) ≡ ((a && b) && c)
-and-assoc true b c = refl
-and-assoc false b c = refl
 
 module _ (f : List ℕ → List ℕ) where
   one-answer : (l : List ℕ) → answersOf f (l ∷ []) ≡ f l
@@ -78,7 +70,7 @@ module _ (g : List ℕ → Bool) where
   pub well-append : (ls ms : List (List ℕ)) → wellOf g (ls ++ ms) ≡ (wellOf g ls && wellOf g ms)
   unfolding wellOf allOf
   well-append [] ms = refl
-  well-append (l ∷ ls) ms = rw (well-append ls ms) (and-assoc (g l) (wellOf g ls) (wellOf g ms))
+  well-append (l ∷ ls) ms = rw (well-append ls ms) (sym (and-assoc (g l) (wellOf g ls) (wellOf g ms)))
 
 -- what a step carries on
 on-ended : (ls : List (List ℕ)) (e : Bool) (l : List ℕ) → carriedOn ls e l .ended ≡ ls ++ endedLine e l
@@ -170,6 +162,28 @@ pub rest-left : {f : List ℕ → List ℕ} {room : ℕ} {whole : List ℕ} (chu
     → whole ≡ lineLeft room (take m after) (drop i chunk)
 rest-left {f} {room} chunk at i k m n line after so-far a h o =
     so-far ∙ (rw (rest-of at i chunk (omega arith) (a .within), a .left) (left-join room (take k line) (slice at i chunk) (drop i chunk)))
+
+-- and the lines that end in it
+ended-join : (room : ℕ) (l s t : List ℕ) → endedIn room l (s ++ t) ≡ endedIn room l s ++ endedIn room (lineLeft room l s) t
+unfolding endedIn
+ended-join room l s t =
+    ap (λ (c : Carried). c .ended) (fed-join room (carried [] l) s t)
+    ∙ (ap (λ (c : Carried). fed room c t .ended) (carried-split room l s (lineLeft room l s) refl) ∙ ended-after room _ (lineLeft room l s) t)
+
+-- Whether these are well, where still tells of the lines before index at, and w of those up to index i.
+module _ (g : List ℕ → Bool) (room : ℕ) {whole : Bool} (chunk : List ℕ) (at k : ℕ) (line : List ℕ) (still : Bool)
+    (so-far : whole ≡ (still && wellOf g (endedIn room (take k line) (drop at chunk)))) where
+  pub rest-well : {f : List ℕ → List ℕ} (i m n : ℕ) (after : List ℕ) {entry exit : List ℕ} {w next : Bool}
+      → Answered f room chunk at i (take k line) m after n entry exit → w ≡ wellOf g (endedIn room (take k line) (slice at i chunk)) → next ≡ (still && w)
+      → at ≤ length chunk → min (at + 1) (length chunk) ≤ i → whole ≡ (next && wellOf g (endedIn room (take m after) (drop i chunk)))
+  rest-well i m n after {w = w} a e en h o =
+      so-far
+      ∙ rw (en, rest-of at i chunk (omega arith) (a .within), ended-join room (take k line) (slice at i chunk) (drop i chunk), well-append g, ← e, a .left)
+      (sym (and-assoc still w (wellOf g (endedIn room (lineLeft room (take k line) (slice at i chunk)) (drop i chunk)))))
+
+  pub done-well : length chunk ≤ at → still ≡ whole
+  unfolding endedIn fed carried
+  done-well h = sym (so-far ∙ rw (drop-of-length-le chunk h, well-none g) (and-true still))
 
 -- the buffers of a program
 pub zeros-length : {line : List ℕ} (n : ℕ) → line ≡ replicate n 0 → length line ≡ n

@@ -1,7 +1,7 @@
 -- Wherever an input is cut, what is written of its pieces, behind one another, is the output of the whole input.
 use Prim.Native.Nat.{ℕ, _<_}
 use mathlib.Core.Path.{_≡_, refl, sym, ap, _∙_}
-use mathlib.Core.Bool.{Bool, _&&_}
+use mathlib.Core.Bool.{Bool, _&&_, and-assoc}
 use mathlib.Core.List.{List, [], _∷_, _++_, map, flatten, append-assoc}
 use Rattle.base.specs.Scans.{allOf}
 use Rattle.lines.specs.Lines.{linesOf, keptOf}
@@ -10,7 +10,7 @@ use Rattle.lines.proofs.Whole.{whole-cut}
 use Rattle.lines.proofs.Turn.{ended-after, left-alone}
 use Rattle.line_output.specs.Output.{answersOf, outputOf, wellOf, allWell}
 use Rattle.line_output.specs.Pieces.{endedIn, pieceAnswers, lastAnswer, piecesOutput, piecesWell, Enough, WholeOutput, WholeWell}
-use Rattle.line_output.proofs.Lines.{and-assoc, answers-append, well-append}
+use Rattle.line_output.proofs.Lines.{answers-append, well-append}
 
 -- a piece fed, after the lines ls
 piece-fed : (room : ℕ) (ls : List (List ℕ)) (l s : List ℕ) → fed room (carried ls l) s ≡ carried (ls ++ endedIn room l s) (lineLeft room l s)
@@ -49,7 +49,7 @@ module _ (g : List ℕ → Bool) (room : ℕ) where
   well-from ls l (s ∷ ss) =
       ap (λ (c : Carried). wellOf g (allLines (fedChunks room c ss))) (piece-fed room ls l s)
       ∙ (well-from (ls ++ endedIn room l s) (lineLeft room l s) ss
-      ∙ rw (well-append g ls (endedIn room l s)) (sym (and-assoc (wellOf g ls) (wellOf g (endedIn room l s)) (piecesWell g room (lineLeft room l s) ss))))
+      ∙ rw (well-append g ls (endedIn room l s)) (and-assoc (wellOf g ls) (wellOf g (endedIn room l s)) (piecesWell g room (lineLeft room l s) ss)))
 
   pub whole-well : 0 < room → Enough g room → WholeWell g room
   unfolding allWell wellOf allOf
