@@ -1,13 +1,18 @@
-// Standard input, line by line, to standard output. What is put is said by the contracts of `command_lines`; here bytes are moved.
+// Standard input, line by line, to standard output. What is put is said by the contracts of `command_lines`; here bytes are moved, and what is
+// kept of a line and known of the lines goes from chunk to chunk.
 ghost use mathlib.Core.Path.{_≡_};
 ghost use mathlib.Core.Bool.{_&&_};
 ghost use Prim.Native.Nat.{_≤_};
-ghost use lib.ListN.{length};
+ghost use lib.ListN.{length, take};
 ghost use Rattle.rules.specs.Partitions.{partitions};
 ghost use Rattle.rules.specs.Segments.{segments};
-ghost use Rattle.command_rules.specs.Lines.{lineBuffer};
+ghost use Rattle.lines.specs.Steps.{lastLine};
+ghost use Rattle.line_output.specs.Output.{wellOf};
+ghost use Rattle.command_rules.specs.Lines.{lineWell, lineBuffer};
 ghost use Rattle.command_answers.specs.Put.{longestLine};
+ghost use Rattle.succession_rules.specs.OfTwo.{tableOf};
 ghost use Rattle.command_line.specs.Ready.{Ready};
+ghost use Rattle.command_stream.specs.Ends.{endedOf, EndsBy, Moved, EndsByPieces};
 use command_lines::answer_chunk;
 use command_lines::answer_last;
 use command_rules::Query;
@@ -32,7 +37,8 @@ struct Wrote {
 }
 
 // Reads standard input to its end and writes the answers of its lines. Every line that has ended is answered before more input
-// is asked for.
+// is asked for. The contract of `read` does not say what is read: so this one speaks of some pieces, each answered with what was kept and
+// known after those before it.
 pub fn answer_input(
     query: Query,
     seconds: bool,
@@ -52,6 +58,7 @@ pub fn answer_input(
     newer_rates: &[u64],
 ) -> Ended
     requires { ⌜ Ready older (partitions (now «older_starts») (now «older_ends»)) (segments (now «older_counts») (now «older_times») (now «older_rates»)) «older_basis» newer (partitions (now «newer_starts») (now «newer_ends»)) (segments (now «newer_counts») (now «newer_times») (now «newer_rates»)) «newer_basis» ⌝ }
+    ensures { λ r. ⌜ EndsByPieces (lineWell query seconds (tableOf older (now («older_starts» .entry)) (now («older_ends» .entry)) (now («older_counts» .entry)) (now («older_times» .entry)) (now («older_rates» .entry))) (tableOf newer (now («newer_starts» .entry)) (now («newer_ends» .entry)) (now («newer_counts» .entry)) (now («newer_times» .entry)) (now («newer_rates» .entry)))) r ⌝ }
 {
     let mut line = [0u8; 4002];
     let mut chunk = io::large_buffer();
@@ -153,6 +160,7 @@ fn write_chunk(
     requires { ⌜ kept ≤ lineBuffer ⌝ }
     requires { ⌜ longestLine ≤ length (now out) ⌝ }
     ensures { λ r. ⌜ r .kept ≤ lineBuffer ⌝ }
+    ensures { λ r. ⌜ Moved (lineWell query seconds (tableOf older (now («older_starts» .entry)) (now («older_ends» .entry)) (now («older_counts» .entry)) (now («older_times» .entry)) (now («older_rates» .entry))) (tableOf newer (now («newer_starts» .entry)) (now («newer_ends» .entry)) (now («newer_counts» .entry)) (now («newer_times» .entry)) (now («newer_rates» .entry)))) (take kept (now (line .entry))) (now (chunk .entry)) well (r .kept) (now (line .exit)) (r .well) (r .written) ⌝ }
 {
     let mut at = 0;
     let mut held = kept;
@@ -235,6 +243,7 @@ fn write_last(
     requires { ⌜ Ready older (partitions (now «older_starts») (now «older_ends»)) (segments (now «older_counts») (now «older_times») (now «older_rates»)) «older_basis» newer (partitions (now «newer_starts») (now «newer_ends»)) (segments (now «newer_counts») (now «newer_times») (now «newer_rates»)) «newer_basis» ⌝ }
     requires { ⌜ kept ≤ length (now line) ⌝ }
     requires { ⌜ longestLine ≤ length (now out) ⌝ }
+    ensures { λ r. ⌜ EndsBy (well && wellOf (lineWell query seconds (tableOf older (now («older_starts» .entry)) (now («older_ends» .entry)) (now («older_counts» .entry)) (now («older_times» .entry)) (now («older_rates» .entry))) (tableOf newer (now («newer_starts» .entry)) (now («newer_ends» .entry)) (now («newer_counts» .entry)) (now («newer_times» .entry)) (now («newer_rates» .entry)))) (lastLine (take kept (now (line .entry))))) r ⌝ }
 {
     let last = answer_last(
         query,
@@ -264,7 +273,9 @@ fn write_last(
     ending(both(well, last.well))
 }
 
-fn ending(well: bool) -> Ended {
+fn ending(well: bool) -> Ended
+    ensures { λ r. ⌜ r ≡ endedOf well ⌝ }
+{
     if well {
         return Ended::Fine;
     }
