@@ -75,7 +75,7 @@ fn ask(
 }
 
 // Segments of `each` ticks, of some 20 ns each, with a gap after each segment; the last one's count.
-fn fill(counts: &mut [u64], times: &mut [i64], rates: &mut [u64], rows: usize, each: u64) -> u64
+pub fn fill(counts: &mut [u64], times: &mut [i64], rates: &mut [u64], rows: usize, each: u64) -> u64
     requires { ⌜ (rows < 10001) × (each < 4294967296) ⌝ }
     requires { ⌜ (rows ≤ length (now counts)) × (rows ≤ length (now times)) × (rows ≤ length (now rates)) ⌝ }
 {
