@@ -1,3 +1,4 @@
 -- The laws that the proofs cite.
 mod Changes
+mod Older
 pub mod Sizes

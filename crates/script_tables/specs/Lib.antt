@@ -1,3 +1,4 @@
 -- What the contracts cite.
 pub mod Changes
+pub mod Older
 pub mod Sizes

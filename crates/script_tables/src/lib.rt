@@ -1,10 +1,12 @@
 // The tables: the layout as the numbers of its line, and five lists, each with how many entries it holds. Behind them stands the older table, likewise.
 ghost use Prim.Native.Nat.{_*_, _+_, _<_, _≤_};
 ghost use mathlib.Core.Path.{_≡_};
-ghost use lib.ListN.{getD, take, drop};
+ghost use lib.IntN.{pos};
+ghost use lib.ListN.{length, getD, set, take, drop};
 ghost use Rattle.script_names.specs.Rows.{mostNumbers};
 ghost use Rattle.script_tables.specs.declared.Taken.the-variants.{Changed};
 ghost use Rattle.script_tables.specs.Changes.{Keeps};
+ghost use Rattle.script_tables.specs.Older.{twice, sizesTwice};
 ghost use Rattle.script_tables.specs.Sizes.{Fit, mostEntries};
 use rules::Layout;
 use script_names::MOST_NUMBERS;
@@ -179,49 +181,71 @@ fn keep_older(
     requires { ⌜ Fit (now sizes) ⌝ }
     ensures { λ r. ⌜ r ≡ Changed ⌝ }
     ensures { λ r. ⌜ Fit (now (sizes .exit)) ⌝ }
+    ensures { λ r. ⌜ now (layout .exit) ≡ twice mostNumbers (now (layout .entry)) ⌝ }
+    ensures { λ r. ⌜ now (sizes .exit) ≡ sizesTwice (now (sizes .entry)) ⌝ }
+    ensures { λ r. ⌜ now (lists .exit) ≡ twice (4 * mostEntries) (now (lists .entry)) ⌝ }
+    ensures { λ r. ⌜ now (times .exit) ≡ twice mostEntries (now (times .entry)) ⌝ }
 {
-    copy_layout(layout);
+    copy_behind(layout, MOST_NUMBERS);
+    copy_sizes(sizes);
+    copy_behind(lists, TABLE_ROOM);
+    copy_times(times, MOST_ENTRIES);
+    Taken::Changed
+}
+
+fn copy_sizes(sizes: &mut [usize])
+    requires { ⌜ length (now sizes) ≡ 10 ⌝ }
+    requires { ⌜ Fit (now sizes) ⌝ }
+    ensures { λ r. ⌜ Fit (now (sizes .exit)) ⌝ }
+    ensures { λ r. ⌜ now (sizes .exit) ≡ sizesTwice (now (sizes .entry)) ⌝ }
+{
     copy_size(sizes, STARTS, OLDER_STARTS);
     copy_size(sizes, ENDS, OLDER_ENDS);
     copy_size(sizes, COUNTS, OLDER_COUNTS);
     copy_size(sizes, RATES, OLDER_RATES);
     copy_size(sizes, TIMES, OLDER_TIMES);
-    copy_lists(lists);
-    copy_times(times);
-    Taken::Changed
 }
 
-fn copy_size(sizes: &mut Sizes, from: usize, to: usize)
-    requires { ⌜ from < 10 ⌝ }
-    requires { ⌜ to < 10 ⌝ }
+fn copy_size(sizes: &mut [usize], from: usize, to: usize)
+    requires { ⌜ length (now sizes) ≡ 10 ⌝ }
+    requires { ⌜ (from < 10) × (to < 10) ⌝ }
     requires { ⌜ Fit (now sizes) ⌝ }
     ensures { λ r. ⌜ Fit (now (sizes .exit)) ⌝ }
+    ensures { λ r. ⌜ length (now (sizes .exit)) ≡ 10 ⌝ }
+    ensures { λ r. ⌜ now (sizes .exit) ≡ set (now (sizes .entry)) to (getD (now (sizes .entry)) from 0) ⌝ }
 {
     sizes[to] = sizes[from];
 }
 
-fn copy_layout(layouts: &mut Layouts) {
+// Copies a list's first half behind it.
+fn copy_behind(list: &mut [u64], half: usize)
+    requires { ⌜ length (now list) ≡ half + half ⌝ }
+    ensures { λ r. ⌜ now (list .exit) ≡ twice half (now (list .entry)) ⌝ }
+{
     let mut i = 0;
-    while i < MOST_NUMBERS {
-        layouts[MOST_NUMBERS + i] = layouts[i];
+    while i < half {
+        list[half + i] = list[i];
         i += 1;
     }
 }
 
-fn copy_lists(lists: &mut Lists) {
+fn copy_times(times: &mut [i64], half: usize)
+    requires { ⌜ length (now times) ≡ half + half ⌝ }
+    ensures { λ r. ⌜ now (times .exit) ≡ twice half (now (times .entry)) ⌝ }
+{
     let mut i = 0;
-    while i < TABLE_ROOM {
-        lists[TABLE_ROOM + i] = lists[i];
+    while i < half {
+        let time = time_at(times, i);
+        times[half + i] = time;
         i += 1;
     }
 }
 
-fn copy_times(times: &mut TimeLists) {
-    let mut i = 0;
-    while i < MOST_ENTRIES {
-        times[MOST_ENTRIES + i] = times[i];
-        i += 1;
-    }
+fn time_at(times: &[i64], i: usize) -> i64
+    requires { ⌜ i < length (now times) ⌝ }
+    ensures { λ r. ⌜ r ≡ getD (now (times .entry)) i (pos 0) ⌝ }
+{
+    times[i]
 }
 
 // The script's layout, as its line's numbers say.
