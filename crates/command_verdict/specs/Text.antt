@@ -1,4 +1,4 @@
--- What is printed of an answer over two tables: of two that are accepted it is their verdict's line.
+-- What is printed of an answer over two tables. Both were accepted before, so its first two cases are all that come.
 use Prim.Native.Nat.{ℕ}
 use mathlib.Core.List.{List, []}
 use Rattle.succession_rules.specs.declared.SuccessionAnswer.{SuccessionAnswer}
