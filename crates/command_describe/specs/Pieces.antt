@@ -1,12 +1,14 @@
 -- The description in the pieces in which it is written.
 use Prim.Native.Nat.{ℕ, _≤_}
-use mathlib.Core.Bool.{Bool}
+use mathlib.Core.Bool.{Bool, true, false}
+use mathlib.Core.Path.{_≡_}
 use mathlib.Core.List.{List, [], _∷_, _++_}
 use lib.IntN.{ℤ}
 use Rattle.rules.specs.Partitions.{partitionsIn}
 use Rattle.rules.specs.Segments.{segmentsIn, stepsBackAt}
 use Rattle.versions.specs.Versions.{Table}
 use Rattle.tables.specs.declared.Basis.{Basis}
+use Rattle.decimal.specs.Writing.{put}
 use Rattle.command_rules.specs.Describe.{countBelow, partitionLine, segmentLine, isGap, headText}
 use Rattle.command_ends.specs.Ends.{tailLines}
 use Rattle.command_rows.specs.Rows.{rowsBetween}
@@ -20,6 +22,22 @@ rowPieces line from (next ∷ rows) = rowsBetween line from next ++ rowPieces li
 pub data EndsAt (n : ℕ) : ℕ → List ℕ → Type 0 where
   all-put : EndsAt n n []
   then-next : {from next : ℕ} {rows : List ℕ} → from ≤ next → EndsAt n next rows → EndsAt n from (next ∷ rows)
+
+-- what these pieces leave in the buffer to whose front each is put
+unfoldable pub leftBy : (ℕ → List ℕ) → ℕ → List ℕ → List ℕ → List ℕ
+leftBy line from [] out = out
+leftBy line from (next ∷ rows) out = leftBy line next rows (put (rowsBetween line from next) 0 out)
+
+-- All n rows were put, by such pieces. That each was written before the next was put no contract can say.
+pub record AllPut (line : ℕ → List ℕ) (n : ℕ) (entry exit : List ℕ) : Type 0 where
+  pub rows : List ℕ
+  pub ends : EndsAt n 0 rows
+  pub left : exit ≡ leftBy line 0 rows entry
+
+-- by whether all was written
+abbrev pub AllPutIf : Bool → (ℕ → List ℕ) → ℕ → List ℕ → List ℕ → Type 0
+AllPutIf true line n entry exit = AllPut line n entry exit
+AllPutIf false line n entry exit = Unit {0}
 
 -- what is written of a table with this basis, by the rows at which the buffers of partitions and of segments end
 unfoldable pub written : ℤ → ℕ → Bool → Table → Basis → List ℕ → List ℕ → List ℕ

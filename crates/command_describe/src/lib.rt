@@ -7,10 +7,12 @@ ghost use Rattle.rules.specs.Partitions.{partitions};
 ghost use Rattle.rules.specs.Segments.{segments};
 ghost use Rattle.tables.specs.Accept.{TableFacts};
 ghost use Rattle.encode.specs.Listed.{Listed};
+ghost use Rattle.command_rules.specs.Describe.{partitionLine, segmentLine};
 ghost use Rattle.command_ends.specs.Ends.{longestHead, longestTail};
 ghost use Rattle.command_jumps.specs.Reached.{AllReached};
 ghost use Rattle.command_rows.specs.Rows.{longestPartition};
 ghost use Rattle.command_segments.specs.SegmentRow.{longestSegment};
+ghost use Rattle.command_describe.specs.Pieces.{AllPutIf};
 use command_ends::put_head;
 use command_ends::put_tail;
 use command_jumps::count_gaps;
@@ -90,6 +92,7 @@ fn write_tail(
 fn write_partitions(starts: &[u64], ends: &[u64], out: &mut [u8]) -> bool
     requires { ⌜ Listed (partitions (now starts) (now ends)) ⌝ }
     requires { ⌜ longestPartition ≤ length (now out) ⌝ }
+    ensures { λ r. ⌜ AllPutIf r (partitionLine (partitions (now (starts .entry)) (now (ends .entry)))) (length (now (starts .entry))) (now (out .entry)) (now (out .exit)) ⌝ }
 {
     let mut at = 0;
     while at < starts.len() {
@@ -114,6 +117,7 @@ fn write_segments(
 ) -> bool
     requires { ⌜ AllReached unit (segments (now counts) (now times) (now rates)) ⌝ }
     requires { ⌜ longestSegment ≤ length (now out) ⌝ }
+    ensures { λ r. ⌜ AllPutIf r (segmentLine seconds unit (segments (now (counts .entry)) (now (times .entry)) (now (rates .entry)))) (length (now (counts .entry))) (now (out .entry)) (now (out .exit)) ⌝ }
 {
     let mut at = 0;
     while at < counts.len() {
