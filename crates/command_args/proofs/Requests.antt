@@ -1,11 +1,12 @@
 -- Words one after the other, and the request of all of them.
-use Prim.Native.Nat.{ℕ, _+_, _≤_}
+use Prim.Native.Nat.{ℕ, _+_, _≤_, _<_}
 use mathlib.Core.Path.{_≡_, refl, sym, _∙_, ap}
 use mathlib.Core.Bool.{Bool, true, false, not, cond}
 use mathlib.Core.List.{List, [], _∷_, _++_}
 use lib.IntN.{ℤ}
 use lib.Dec.{eqb}
-use lib.ListN.{length, length-append}
+use lib.ListN.{length, take, length-append}
+use lib.Seq.{take-all, length-take-le}
 use borrow.Author.Tests.{eq-eqb, ne-eqb}
 use native.Mathlib.Omega.{arith}
 use Rattle.command_rules.specs.declared.Query.{Query}
@@ -22,7 +23,7 @@ use Rattle.command_words.specs.declared.Later.{Later}
 use Rattle.command_words.specs.declared.Later.the-variants as Later
 use Rattle.command_words.specs.Words.{laterOf}
 use Rattle.command_words.specs.Clock.{clockOf}
-use Rattle.command_args.specs.Given.{takesHex, takesSeconds, plainWords, nothingGiven, withHex, withSeconds, withPlain, withWord, afterWord, askingOf, askedOf, requestOf, queryOf}
+use Rattle.command_args.specs.Given.{takesHex, takesSeconds, plainWords, nothingGiven, withHex, withSeconds, withPlain, withUnknown, withWord, afterWord, askingOf, askedOf, requestOf, queryOf}
 use Rattle.command_args.specs.Asked.{givenBy, behindFirst, askedBy, GivenBySome, AskedBySome}
 
 -- the word w by its case
@@ -42,6 +43,21 @@ module _ (k : Command) (i : ℕ) (w : List ℕ) (l : Later) (g h : Given) (e : l
   pub plain-told : (n : ClockWord) → l ≡ Later.Plain → n ≡ clockOf w → h ≡ withPlain i n g → h ≡ afterWord k i w g
   unfolding afterWord
   plain-told n q p v = v ∙ rw (← e, q, p)
+
+  pub unknown-told : (m : Later) → l ≡ Later.Unknown → m ≡ laterOf (take 2 w) → h ≡ withUnknown i m g → h ≡ afterWord k i w g
+  unfolding afterWord
+  unknown-told m q p v = v ∙ rw (← e, q, p)
+
+-- the beginning of a word of fewer than two bytes
+pub short-beginning : (w : List ℕ) (l : Later) → length w < 2 → l ≡ laterOf w → l ≡ laterOf (take 2 w)
+short-beginning w l h e = e ∙ rw (take-all 2 w (omega arith))
+
+pub two-bytes : (w : List ℕ) → 2 ≤ length w → 2 ≡ length (take 2 w)
+two-bytes w h = sym (length-take-le 2 w h)
+
+-- an unknown word by the case of its beginning
+pub beginning-told : (i : ℕ) (l m : Later) (g h : Given) → l ≡ m → h ≡ withUnknown i m g → h ≡ withUnknown i l g
+beginning-told i l m g h e v = v ∙ rw e
 
 -- a query that `--hex` decides
 pub hex-decides : (k l : Command) (hex : Bool) (r : Query) → k ≡ l → r ≡ queryOf l hex → r ≡ queryOf k hex

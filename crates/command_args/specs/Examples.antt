@@ -3,8 +3,9 @@ use Prim.Native.Nat.{ℕ}
 use Prim.Native.String.{String}
 use mathlib.Core.Path.{_≡_, refl}
 use mathlib.Core.Bool.{Bool, true, false}
-use mathlib.Core.List.{List, [], _∷_, map}
+use mathlib.Core.List.{List, [], _∷_, _++_, map}
 use lib.IntN.{ℤ, pos, negsuc}
+use lib.ListN.{replicate}
 use Rattle.rules.specs.Examples.{bytes}
 use Rattle.kernel_rules.specs.Lines.{same}
 use Rattle.command_words.specs.declared.Command.{Command}
@@ -79,3 +80,14 @@ cases =
 answered : map (λ c. askedBy (map bytes (c .words))) cases ≡ map (λ c. c .request) cases
 unfolding bytes same firstOf isOption optionOf laterOf spelledBehind spelled clockOf afterWord askedOf requestOf givenBy behindFirst askedBy
 answered = refl
+
+-- A word of 4,096 bytes may stand for a file. It is no option and no clock's number.
+long-words : map askedBy (
+    (bytes "time" ∷ replicate 4096 107 ∷ bytes "77" ∷ [])
+    ∷ (bytes "compare" ∷ bytes "a" ∷ replicate 4096 107 ∷ bytes "77" ∷ [])
+    ∷ (bytes "time" ∷ (bytes "--" ++ replicate 4094 107) ∷ bytes "k" ∷ bytes "77" ∷ [])
+    ∷ (bytes "time" ∷ bytes "k" ∷ replicate 4096 48 ∷ [])
+    ∷ [])
+    ≡ (asks Time false false 2 3 (pos 77) ∷ asks Compare false false 2 3 (pos 77) ∷ Usage ∷ Usage ∷ [])
+unfolding bytes same firstOf isOption optionOf laterOf spelledBehind spelled clockOf afterWord askedOf requestOf givenBy behindFirst askedBy
+long-words = refl

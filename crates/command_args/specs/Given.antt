@@ -4,6 +4,7 @@ use mathlib.Core.Bool.{Bool, true, false, not, _&&_, _||_, cond}
 use mathlib.Core.List.{List}
 use lib.IntN.{ℤ}
 use lib.Dec.{eqb}
+use lib.ListN.{take}
 use Rattle.command_rules.specs.declared.Query.{Query}
 use Rattle.command_rules.specs.declared.Query.the-variants as Queries
 use Rattle.command_words.specs.declared.Command.{Command}
@@ -76,11 +77,20 @@ withPlain i clock g =
       last = clock;
     }
 
+-- A word that is unknown, by what its first two bytes are: an option is wrong, any other word is too long. It may name a file, which then
+-- cannot be read; it is no clock's number.
+abbrev pub withUnknown : ℕ → Later → Given → Given
+withUnknown i Later.Hex g = withWrong g
+withUnknown i Later.Seconds g = withWrong g
+withUnknown i Later.Help g = withWrong g
+withUnknown i Later.Unknown g = withWrong g
+withUnknown i Later.Plain g = withPlain i Clocks.Bad g
+
 abbrev pub withWord : Command → ℕ → List ℕ → Later → Given → Given
 withWord k i w Later.Hex g = withHex (takesHex k) g
 withWord k i w Later.Seconds g = withSeconds (takesSeconds k) g
 withWord k i w Later.Help g = withHelp g
-withWord k i w Later.Unknown g = withWrong g
+withWord k i w Later.Unknown g = withUnknown i (laterOf (take 2 w)) g
 withWord k i w Later.Plain g = withPlain i (clockOf w) g
 
 -- the word w, which is the argument i

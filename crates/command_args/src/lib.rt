@@ -3,8 +3,10 @@ ghost use mathlib.Core.Path.{_≡_};
 ghost use mathlib.Core.Bool.{_||_, not, cond};
 ghost use Prim.Native.Nat.{_+_, _≤_, min};
 ghost use lib.Dec.{eqb};
+ghost use lib.ListN.{take};
 ghost use Rattle.io.specs.Counts.{Counts};
-ghost use Rattle.command_args.specs.Given.{nothingGiven, mostPlain, takesHex, takesSeconds, plainWords, withHex, withSeconds, withHelp, withWrong, withPlain, afterWord, askingOf, requestOf, queryOf};
+ghost use Rattle.command_words.specs.Words.{laterOf};
+ghost use Rattle.command_args.specs.Given.{nothingGiven, mostPlain, takesHex, takesSeconds, plainWords, withHex, withSeconds, withHelp, withWrong, withPlain, withUnknown, afterWord, askingOf, requestOf, queryOf};
 ghost use Rattle.command_args.specs.Asked.{GivenBySome, AskedBySome};
 use command_rules::Query;
 use command_words::Command;
@@ -82,7 +84,7 @@ fn read_words(command: Command, count: usize, word: &mut [u8]) -> Given
 }
 
 // Puts the argument i to the front of the buffer. One that does not fit is a word as long as the buffer, and so too long.
-fn read_word(i: usize, word: &mut [u8]) -> usize
+pub fn read_word(i: usize, word: &mut [u8]) -> usize
     ensures { λ r. ⌜ Counts r (now (word .exit)) ⌝ }
 {
     let n = os::arg(i, word);
@@ -115,7 +117,7 @@ fn after_word(command: Command, i: usize, w: &[u8], given: Given) -> Given
         Later::Hex => with_hex(takes_hex(command), given),
         Later::Seconds => with_seconds(takes_seconds(command), given),
         Later::Help => with_help(given),
-        Later::Unknown => with_wrong(given),
+        Later::Unknown => with_unknown(i, beginning(w), given),
         Later::Plain => with_plain(i, clock_of(w), given),
     }
 }
@@ -247,6 +249,28 @@ fn with_plain(i: usize, last: ClockWord, given: Given) -> Given
         second: either(plain == 1, i, given.second),
         last,
     }
+}
+
+// A word that is unknown, by what its first two bytes are.
+fn with_unknown(i: usize, beginning: Later, given: Given) -> Given
+    ensures { λ r. ⌜ r ≡ withUnknown i beginning given ⌝ }
+{
+    match beginning {
+        Later::Hex => with_wrong(given),
+        Later::Seconds => with_wrong(given),
+        Later::Help => with_wrong(given),
+        Later::Unknown => with_wrong(given),
+        Later::Plain => with_plain(i, ClockWord::Bad, given),
+    }
+}
+
+fn beginning(w: &[u8]) -> Later
+    ensures { λ r. ⌜ r ≡ laterOf (take 2 (now (w .entry))) ⌝ }
+{
+    if w.len() < 2 {
+        return later_of(w);
+    }
+    later_of(&w[..2])
 }
 
 fn one_more(plain: usize) -> usize
