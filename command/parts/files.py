@@ -37,11 +37,16 @@ def unreadable(sclk):
         ('folder/none', b'sclk: folder/none: No such file or directory\n'),
         (sclk.galileo + '/none', b'sclk: %s/none: Not a directory\n' % sclk.galileo.encode()),
         ('k' * 4095, b'sclk: %s: File name too long\n' % (b'k' * 4095)),
+        # No path is longer. Of a longer name the first 4,096 bytes are said.
+        ('k' * 4096, b'sclk: %s: File name too long\n' % (b'k' * 4096)),
+        ('./' * 2047 + '/k', b'sclk: %s: File name too long\n' % (b'./' * 2047 + b'/k')),
+        ('k' * 100_000, b'sclk: %s: File name too long\n' % (b'k' * 4096)),
         ('/dev/zero', b'sclk: /dev/zero: larger than 4 MiB\n'),
     ]
     for path, errors in missing:
         for words in (['time', path], ['stamp', path], ['count', path], ['describe', path], ['compare', path, sclk.galileo], ['compare', sclk.galileo, path]):
             expect(sclk.run(*words, '77', given=GIVEN), 4, b'', errors)
+            sclk.beside(*words, '77', given=GIVEN)
     # The older kernel is read first.
     expect(sclk.run('compare', 'none', 'folder', '77', given=GIVEN), 4, b'', missing[0][1])
     expect(sclk.run('compare', 'folder', 'none', '77', given=GIVEN), 4, b'', missing[2][1])

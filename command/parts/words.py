@@ -65,8 +65,13 @@ WRONG = [
     ['time', 'K', '77\n'],
     ['time', 'K', b'\xc2\xb277'],
     # long words, and many
-    ['time', 'k' * 4096, '77'],
     ['time', 'K', '0' * 4094 + '77'],
+    ['time', 'k' * 4096, '0' * 4094 + '77'],
+    ['time', 'k' * 4096],
+    ['time', 'k' * 4096, 'K', '77'],
+    ['compare', 'k' * 4096, '77'],
+    ['time', '--' + 'x' * 4094, 'K', '77'],
+    ['time', 'k' * 4096, '--' + 'x' * 4094, '77'],
     ['t' * 4096, 'K', '77'],
     ['time', '--' + 'x' * 100_000, 'K', '77'],
     ['time'] + ['K'] * 5_000 + ['77'],
@@ -105,6 +110,7 @@ def test(sclk):
 
     for words in WRONG:
         expect(sclk.run(*of(words), given=GIVEN), 2, b'', sclk.usage)
+        sclk.beside(*of(words), given=GIVEN, errors=True)
     for words in HELP:
         expect(sclk.run(*of(words), given=GIVEN), 0, sclk.help, b'')
     for group in ALIKE:

@@ -1,4 +1,5 @@
 // The command that reads two kernels, the older first.
+ghost use Rattle.command_load.specs.Ends.{NotUsage};
 use command_args::Asking;
 use command_load::Loaded;
 use command_load::load;
@@ -12,8 +13,11 @@ use rules::Layout;
 use tables::Acceptance;
 use tables::accept;
 
-// Loads both kernels by way of the room, and answers under their tables.
-pub fn answer_two(asking: Asking, room: &mut [u8]) -> Status {
+// Loads both kernels by way of the room, and answers under their tables. Which bytes it then reads and writes no contract can say:
+// those of reading and writing say nothing of the streams.
+pub fn answer_two(asking: Asking, room: &mut [u8]) -> Status
+    ensures { λ r. ⌜ NotUsage r ⌝ }
+{
     let mut moduli = [0u64; Layout::MOST_FIELDS];
     let mut offsets = [0u64; Layout::MOST_FIELDS];
     let mut starts = [0u64; MOST_PARTITIONS];
@@ -67,7 +71,9 @@ fn accept_older(
     counts: &[u64],
     times: &[i64],
     rates: &[u64],
-) -> Status {
+) -> Status
+    ensures { λ r. ⌜ NotUsage r ⌝ }
+{
     match accept(measure(older), starts, ends, counts, times, rates) {
         Acceptance::Accepted(basis) => load_newer(
             asking,

@@ -18,13 +18,13 @@ use Rattle.kernel_rules.specs.declared.KernelAnswer.the-variants as Kernels
 use Rattle.kernel_rules.specs.Lines.{kernelLines}
 use Rattle.kernel_rules.specs.Names.{clockDigits}
 use Rattle.kernel_rules.specs.Tables.{Lists, Tables}
-use Rattle.kernel_rules.specs.Kernel.{kernelAnswer, kernelGiven, linesRead, fits, readKernel}
+use Rattle.kernel_rules.specs.Kernel.{kernelAnswer, kernelGiven, linesRead, fits, readKernel, listsAfter}
 use Rattle.command_files.specs.declared.FileRead.{FileRead}
 use Rattle.command_files.specs.declared.FileRead.the-variants as Files
 use Rattle.command_files.specs.Files.{Below}
 use Rattle.command_load.specs.declared.Loaded.{Loaded}
 use Rattle.command_load.specs.declared.Loaded.the-variants as Loads
-use Rattle.command_load.specs.Loaded.{loadedOf, Within}
+use Rattle.command_load.specs.Loaded.{loadedOf, Within, LoadedFrom, LoadedBy}
 
 module _ (lent : Lists) (k : Kernel) where
   -- behind 16
@@ -64,3 +64,19 @@ module _ (n : ℕ) (room : List ℕ) (r : FileRead) (h : r ≡ Files.Bytes n) (b
 
 pub settled : (k : Kernel) (a : KernelAnswer) → a ≡ Kernels.Read k → Loads.Read k ≡ loadedOf a
 settled k a h = rw h
+
+-- the front of the room was read as a text
+module _ (text : List ℕ) (clock : ℤ) (lent after : Lists) (a : KernelAnswer) (e : kernelAnswer a ≡ kernelGiven (readKernel text clock lent)) (w : after ≡ listsAfter (readKernel text clock lent) lent) where
+  loaded-from : (n : ℕ) (room : List ℕ) (r : FileRead) → r ≡ Files.Bytes n → Below (length room) r → text ≡ take n room → (l : Loaded) → l ≡ loadedOf a → LoadedBy room clock lent after l
+  loaded-from n room r h b t l q = rw q (by-answer a e)
+    where
+      below : n < length room
+      below = rw h at b
+
+      by-answer : (x : KernelAnswer) → kernelAnswer x ≡ kernelGiven (readKernel text clock lent) → LoadedBy room clock lent after (loadedOf x)
+      by-answer (Kernels.Read k) p = record { size = n; below = below; same = rw (← t, ← p); lists = rw (← t) w }
+      by-answer (Kernels.Refused k) p = record { size = n; below = below; same = rw (← t, ← p); lists = rw (← t) w }
+
+  -- as the caller has them
+  pub loaded-by : (n : ℕ) (room : List ℕ) (r : FileRead) → r ≡ Files.Bytes n → Below (length room) r → text ≡ take n room → (l : Loaded) → l ≡ loadedOf a → (z : ℤ) (given left : Lists) → clock ≡ z → lent ≡ given → after ≡ left → LoadedBy room z given left l
+  loaded-by n room r h b t l q z given left c g k = rw (← c, ← g, ← k) (loaded-from n room r h b t l q)

@@ -2,7 +2,9 @@
 // What is wrong with it is said on standard error.
 ghost use mathlib.Core.Path.{_≡_};
 ghost use lib.ListN.{length};
-ghost use Rattle.command_load.specs.Loaded.{loadedOf, Within};
+ghost use Rattle.kernel_rules.specs.Tables.{listsOf};
+ghost use Rattle.command_load.specs.Loaded.{loadedOf, Within, LoadedBy};
+use command_args::read_word;
 use command_files::FileRead;
 use command_files::read_file;
 use command_files::say;
@@ -20,7 +22,7 @@ pub enum Loaded {
     Unreadable,
 }
 
-// Reads the kernel by way of the room, which has a byte more than the largest file.
+// Reads the kernel by way of the room, which has a byte more than the largest file. No contract says that the room's bytes are the file's.
 pub fn load(
     argument: usize,
     clock: i64,
@@ -34,9 +36,10 @@ pub fn load(
     rates: &mut [u64],
 ) -> Loaded
     ensures { λ r. ⌜ Within (length (now (starts .entry))) (length (now (counts .entry))) r ⌝ }
+    ensures { λ r. ⌜ LoadedBy (now (room .exit)) clock (listsOf (now (moduli .entry)) (now (offsets .entry)) (now (starts .entry)) (now (ends .entry)) (now (counts .entry)) (now (times .entry)) (now (rates .entry))) (listsOf (now (moduli .exit)) (now (offsets .exit)) (now (starts .exit)) (now (ends .exit)) (now (counts .exit)) (now (times .exit)) (now (rates .exit))) r ⌝ }
 {
     let mut path = io::buffer();
-    let n = os::arg(argument, &mut path);
+    let n = read_word(argument, &mut path);
     match read_file(&path[..n], room) {
         FileRead::Bytes(size) => settle(
             &path[..n],
@@ -83,9 +86,11 @@ fn say_refused(path: &[u8], refusal: Refusal) {
 }
 
 // The same of the kernel that an argument names, and the status with which the program ends then.
-pub fn refuse_argument(argument: usize, refusal: Refusal) -> Status {
+pub fn refuse_argument(argument: usize, refusal: Refusal) -> Status
+    ensures { λ r. ⌜ r ≡ Status.Kernel ⌝ }
+{
     let mut path = io::buffer();
-    let n = os::arg(argument, &mut path);
+    let n = read_word(argument, &mut path);
     say_refused(&path[..n], refusal);
     Status::Kernel
 }

@@ -2,6 +2,7 @@
 ghost use Rattle.rules.specs.Partitions.{partitions};
 ghost use Rattle.rules.specs.Segments.{segments};
 ghost use Rattle.tables.specs.Accept.{TableFacts};
+ghost use Rattle.command_load.specs.Ends.{NotUsage};
 use command_args::Asking;
 use command_load::Loaded;
 use command_load::load;
@@ -25,6 +26,7 @@ pub fn load_newer(
     older_rates: &[u64],
 ) -> Status
     requires { ⌜ TableFacts older (partitions (now «older_starts») (now «older_ends»)) (segments (now «older_counts») (now «older_times») (now «older_rates»)) «older_basis» ⌝ }
+    ensures { λ r. ⌜ NotUsage r ⌝ }
 {
     let mut moduli = [0u64; Layout::MOST_FIELDS];
     let mut offsets = [0u64; Layout::MOST_FIELDS];

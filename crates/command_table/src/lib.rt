@@ -1,7 +1,12 @@
 // The answers under one table.
+ghost use mathlib.Core.Path.{_≡_};
+ghost use Rattle.rules.specs.Answer.{answer};
+ghost use Rattle.rules.specs.Accepted.{accepted};
 ghost use Rattle.rules.specs.Partitions.{partitions};
 ghost use Rattle.rules.specs.Segments.{segments};
 ghost use Rattle.tables.specs.Accept.{TableFacts};
+ghost use Rattle.command_load.specs.Ends.{Answered, EndsUnder};
+ghost use Rattle.command_table.specs.Described.{isDescribe, describedEnd};
 use command_args::Asking;
 use command_args::query_of;
 use command_describe::describe;
@@ -27,7 +32,9 @@ pub fn answer_table(
     counts: &[u64],
     times: &[i64],
     rates: &[u64],
-) -> Status {
+) -> Status
+    ensures { λ r. ⌜ EndsUnder (accepted layout (partitions (now (starts .entry)) (now (ends .entry))) (segments (now (counts .entry)) (now (times .entry)) (now (rates .entry))) (answer (tt {0}))) r ⌝ }
+{
     match accept(measure(layout), starts, ends, counts, times, rates) {
         Acceptance::Accepted(basis) => answer(
             asking,
@@ -56,6 +63,7 @@ fn answer(
     rates: &[u64],
 ) -> Status
     requires { ⌜ TableFacts layout (partitions (now starts) (now ends)) (segments (now counts) (now times) (now rates)) basis ⌝ }
+    ensures { λ r. ⌜ Answered r ⌝ }
 {
     let command = asking.command;
     if is_describe(command) {
@@ -92,7 +100,9 @@ fn answer(
     ))
 }
 
-fn is_describe(command: Command) -> bool {
+fn is_describe(command: Command) -> bool
+    ensures { λ r. ⌜ r ≡ isDescribe command ⌝ }
+{
     match command {
         Command::Time => false,
         Command::Stamp => false,
@@ -103,7 +113,9 @@ fn is_describe(command: Command) -> bool {
 }
 
 // How a description ended, by whether all was written.
-fn described(written: bool) -> Ended {
+fn described(written: bool) -> Ended
+    ensures { λ r. ⌜ r ≡ describedEnd written ⌝ }
+{
     if written {
         return Ended::Fine;
     }

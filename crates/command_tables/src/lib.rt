@@ -1,7 +1,10 @@
 // The answers under two tables.
+ghost use Rattle.rules.specs.Answer.{answer};
+ghost use Rattle.rules.specs.Accepted.{accepted};
 ghost use Rattle.rules.specs.Partitions.{partitions};
 ghost use Rattle.rules.specs.Segments.{segments};
 ghost use Rattle.tables.specs.Accept.{TableFacts};
+ghost use Rattle.command_load.specs.Ends.{Answered, EndsUnder};
 use command_args::Asking;
 use command_args::query_of;
 use command_load::refuse_argument;
@@ -34,6 +37,7 @@ pub fn answer_tables(
     rates: &[u64],
 ) -> Status
     requires { ⌜ TableFacts older (partitions (now «older_starts») (now «older_ends»)) (segments (now «older_counts») (now «older_times») (now «older_rates»)) «older_basis» ⌝ }
+    ensures { λ r. ⌜ EndsUnder (accepted newer (partitions (now (starts .entry)) (now (ends .entry))) (segments (now (counts .entry)) (now (times .entry)) (now (rates .entry))) (answer (tt {0}))) r ⌝ }
 {
     match accept(measure(newer), starts, ends, counts, times, rates) {
         Acceptance::Accepted(basis) => answer(
@@ -77,6 +81,7 @@ fn answer(
 ) -> Status
     requires { ⌜ TableFacts older (partitions (now «older_starts») (now «older_ends»)) (segments (now «older_counts») (now «older_times») (now «older_rates»)) «older_basis» ⌝ }
     requires { ⌜ TableFacts newer (partitions (now «newer_starts») (now «newer_ends»)) (segments (now «newer_counts») (now «newer_times») (now «newer_rates»)) «newer_basis» ⌝ }
+    ensures { λ r. ⌜ Answered r ⌝ }
 {
     if !write_verdict(
         older,

@@ -17,6 +17,9 @@ pub enum Words<'a> {
     Asked { job: Job, hex: bool, seconds: bool, kernels: Vec<&'a [u8]>, clock: i64 },
 }
 
+/// Bytes of a word that is read. A longer one names no file, and is no clock's number.
+const LONGEST_WORD: usize = 4_095;
+
 pub const USAGE: &str = "usage: sclk time     [--hex] [--seconds] KERNEL CLOCK
        sclk stamp    KERNEL CLOCK
        sclk count    [--seconds] KERNEL CLOCK
@@ -86,6 +89,9 @@ fn asked(job: Job, words: &[Vec<u8>]) -> Option<Words<'_>> {
         return None;
     }
     // "a decimal number with `-` in front of a negative one, in 64 bits".
+    if clock.len() > LONGEST_WORD {
+        return None;
+    }
     let clock = script::time(clock)?;
     Some(Words::Asked {
         job,

@@ -1,6 +1,7 @@
 use Rattle.layouts.proofs.Units.{measured-in-limits}
 use Rattle.tables.proofs.Accepted.{table-facts}
 use borrow.Author.Needs.{needs}
+use Rattle.command_load.proofs.Endings.{under-accepted, under-refused}
 use Rattle.command_table.proofs.answer_table.Statement.{statement}
 use Rattle.command_table.proofs.answer_table.Tie as tie
 
@@ -14,5 +15,5 @@ answer-table-spec =
     (λ c κs. search (table-facts, needs))
     (λ c. search needs)
     (λ c κs. search needs)
-    (λ c. search needs)
-    (λ c. search needs))
+    (λ c. search (under-accepted, needs))
+    (λ c. search (under-refused, needs)))

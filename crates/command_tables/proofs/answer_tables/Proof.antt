@@ -1,6 +1,7 @@
 use Rattle.layouts.proofs.Units.{measured-in-limits}
 use Rattle.tables.proofs.Accepted.{table-facts}
 use borrow.Author.Needs.{needs}
+use Rattle.command_load.proofs.Endings.{under-accepted, under-refused}
 use Rattle.command_tables.proofs.answer_tables.Statement.{statement}
 use Rattle.command_tables.proofs.answer_tables.Tie as tie
 
@@ -17,5 +18,5 @@ answer-tables-spec =
     answer-requires
     (λ c. search needs)
     (λ c κs. search needs)
-    (λ c. search needs)
-    (λ c. search needs))
+    (λ c. search (under-accepted, needs))
+    (λ c. search (under-refused, needs)))
