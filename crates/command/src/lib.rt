@@ -1,5 +1,8 @@
 // The program of the operator's command: what its words ask, and its exit status.
+ghost use mathlib.Core.Path.{_≡_};
 ghost use Rattle.command_status.specs.Status.{ExitStatus};
+ghost use Rattle.command_load.specs.Ends.{NotUsage};
+ghost use Rattle.command.specs.Program.{isCompare, Helped, EndsForSome, ExitsForSome};
 use command_args::Asking;
 use command_args::Request;
 use command_args::asked;
@@ -16,11 +19,14 @@ use command_words::Command;
 
 pub fn run() -> i32
     ensures { λ r. ⌜ ExitStatus r ⌝ }
+    ensures { λ r. ⌜ ExitsForSome r ⌝ }
 {
     code(status())
 }
 
-fn status() -> Status {
+fn status() -> Status
+    ensures { λ r. ⌜ EndsForSome r ⌝ }
+{
     match asked() {
         Request::Ask(asking) => answer(asking),
         Request::Help => help(),
@@ -29,7 +35,9 @@ fn status() -> Status {
 }
 
 // One room serves every kernel.
-fn answer(asking: Asking) -> Status {
+fn answer(asking: Asking) -> Status
+    ensures { λ r. ⌜ NotUsage r ⌝ }
+{
     let mut space = file_room();
     let room: &mut [u8] = &mut space;
     let command = asking.command;
@@ -39,7 +47,9 @@ fn answer(asking: Asking) -> Status {
     answer_one(asking, room)
 }
 
-fn is_compare(command: Command) -> bool {
+fn is_compare(command: Command) -> bool
+    ensures { λ r. ⌜ r ≡ isCompare command ⌝ }
+{
     match command {
         Command::Time => false,
         Command::Stamp => false,
@@ -49,14 +59,18 @@ fn is_compare(command: Command) -> bool {
     }
 }
 
-fn help() -> Status {
+fn help() -> Status
+    ensures { λ r. ⌜ Helped r ⌝ }
+{
     if write_help() {
         return Status::Fine;
     }
     conclude(Ended::OutputFailed)
 }
 
-fn usage() -> Status {
+fn usage() -> Status
+    ensures { λ r. ⌜ r ≡ Status.Usage ⌝ }
+{
     write_usage();
     Status::Usage
 }
