@@ -31,7 +31,8 @@ fn examples() {
 
 #[test]
 fn checksums() {
-    for (program, word) in [("bench", None), ("bench_host", Some("host")), ("bench_dump", Some("packets"))] {
+    let words = [("bench", None), ("bench_host", Some("host")), ("bench_dump", Some("packets")), ("bench_tables", Some("tables"))];
+    for (program, word) in words {
         let bench = Command::new(env!("CARGO_BIN_EXE_bench")).args(word).output().unwrap();
         assert!(bench.status.success());
         assert!(stored(program, "stdout") == bench.stdout, "{}", program);
