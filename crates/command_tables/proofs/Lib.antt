@@ -1,0 +1,2 @@
+-- The ways to the end of a comparison.
+pub mod Comparing
