@@ -1,15 +1,12 @@
 -- The program's status by what its words ask.
 use mathlib.Core.Bool.{Bool, true, false}
 use mathlib.Core.Path.{_≡_}
-use lib.IntN.{ℤ}
 use Rattle.command_words.specs.declared.Command.{Command}
 use Rattle.command_words.specs.declared.Command.the-variants.{Time, Stamp, Count, Describe, Compare}
 use Rattle.command_args.specs.declared.Request.{Request}
 use Rattle.command_args.specs.declared.Request.the-variants as Requests
-use Rattle.command_args.specs.Asked.{AskedBySome}
 use Rattle.command_status.specs.declared.Status.{Status}
 use Rattle.command_status.specs.declared.Status.the-variants as Statuses
-use Rattle.command_status.specs.Status.{statusCode}
 use Rattle.command_load.specs.Ends.{NotUsage}
 
 -- the command with two kernels
@@ -34,14 +31,3 @@ abbrev pub EndsFor : Request → Status → Type 0
 EndsFor (Requests.Ask a) s = NotUsage s
 EndsFor Requests.Help s = Helped s
 EndsFor Requests.Usage s = s ≡ Statuses.Usage
-
--- No contract says what words the system hands out, so this says: some request of some words.
-pub record EndsForSome (s : Status) : Type 0 where
-  pub request : Request
-  pub asked : AskedBySome request
-  pub ends : EndsFor request s
-
-pub record ExitsForSome (z : ℤ) : Type 0 where
-  pub status : Status
-  pub ends : EndsForSome status
-  pub same : z ≡ statusCode status

@@ -2,7 +2,7 @@
 ghost use mathlib.Core.Path.{_≡_};
 ghost use Rattle.command_status.specs.Status.{ExitStatus};
 ghost use Rattle.command_load.specs.Ends.{NotUsage};
-ghost use Rattle.command.specs.Program.{isCompare, Helped, EndsForSome, ExitsForSome};
+ghost use Rattle.command.specs.Program.{isCompare, Helped, EndsFor};
 use command_args::Asking;
 use command_args::Request;
 use command_args::asked;
@@ -19,15 +19,14 @@ use command_words::Command;
 
 pub fn run() -> i32
     ensures { λ r. ⌜ ExitStatus r ⌝ }
-    ensures { λ r. ⌜ ExitsForSome r ⌝ }
 {
-    code(status())
+    code(respond(asked()))
 }
 
-fn status() -> Status
-    ensures { λ r. ⌜ EndsForSome r ⌝ }
+fn respond(request: Request) -> Status
+    ensures { λ r. ⌜ EndsFor request r ⌝ }
 {
-    match asked() {
+    match request {
         Request::Ask(asking) => answer(asking),
         Request::Help => help(),
         Request::Usage => usage(),

@@ -18,13 +18,13 @@ use Rattle.command_stream.specs.declared.Ended.the-variants as Ends
 use Rattle.command_status.specs.declared.Status.{Status}
 use Rattle.command_status.specs.declared.Status.the-variants as Statuses
 use Rattle.command_status.specs.Status.{statusOf}
-use Rattle.command_load.specs.Ends.{Answered, EndsUnder, NotUsage}
+use Rattle.command_load.specs.Ends.{Concluded, EndsUnder, NotUsage}
 
-pub answered : (e : Ended) (s : Status) → s ≡ statusOf e → Answered s
+pub answered : (e : Ended) (s : Status) → s ≡ statusOf e → Concluded s
 answered e s h = record { ended = e; same = h }
 
 module _ {A : Type 0} (x : Answer A) (s : Status) where
-  ends-accepted : (a : A) → answer a ≡ x → Answered s → EndsUnder x s
+  ends-accepted : (a : A) → answer a ≡ x → Concluded s → EndsUnder x s
   ends-accepted a e h = rw (← e) h
 
   ends-refused : (k : Refusal) → refused k ≡ x → s ≡ Statuses.Kernel → EndsUnder x s
@@ -45,7 +45,7 @@ module _ {A : Type 0} (x : Answer A) (s : Status) where
 
 -- by what accepting the tables answered
 module _ (l : Layout) (p : Partitions) (g : Segments) (m : MeasureAnswer) (w : measureAnswer m ≡ measureOf l) (r : Acceptance) (e : acceptance r ≡ andThen (measureAnswer m) (tableBasis p g)) (s : Status) where
-  pub under-accepted : (b : Basis) → r ≡ Accepted b → Answered s → EndsUnder (accepted l p g (answer (tt {0}))) s
+  pub under-accepted : (b : Basis) → r ≡ Accepted b → Concluded s → EndsUnder (accepted l p g (answer (tt {0}))) s
   under-accepted b h a = ends-accepted (accepted l p g (answer (tt {0}))) s (tt {0}) (table-accepted l p m w r g e b h (answer (tt {0})) (answer (tt {0})) refl) a
 
   pub under-refused : (k : Refusal) → r ≡ Refused k → s ≡ Statuses.Kernel → EndsUnder (accepted l p g (answer (tt {0}))) s

@@ -6,13 +6,13 @@ use Rattle.command_status.specs.declared.Status.{Status}
 use Rattle.command_status.specs.declared.Status.the-variants as Statuses
 use Rattle.command_status.specs.Status.{statusOf}
 
-pub record Answered (s : Status) : Type 0 where
+pub record Concluded (s : Status) : Type 0 where
   pub ended : Ended
   pub same : s ≡ statusOf ended
 
 -- by whether the tables are accepted
 abbrev pub EndsUnder : {A : Type 0} → Answer A → Status → Type 0
-EndsUnder (answer a) s = Answered s
+EndsUnder (answer a) s = Concluded s
 EndsUnder (refused k) s = s ≡ Statuses.Kernel
 
 -- "2 usage" is not the status of any command that is asked for

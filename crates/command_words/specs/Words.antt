@@ -33,7 +33,7 @@ optionOf w =
     (cond (same w (bytes "--seconds")) Later.Seconds
     (cond (same w (bytes "--help")) Later.Help Later.Unknown))
 
--- A longer word names no file.
+-- No path is longer.
 abbrev pub longestWord : ℕ
 longestWord = 4095
 
