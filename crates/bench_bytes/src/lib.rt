@@ -1,5 +1,7 @@
 // Lists of numbers in bytes, the layout's two, and what a C call returns.
+#![tactic(auto)]
 use bench_report::{layout, unknown_zero};
+use std::rt::Env;
 
 // The ordinal of 0.
 pub const ZERO: u64 = 0x8000_0000_0000_0000;
@@ -7,22 +9,22 @@ pub const ZERO: u64 = 0x8000_0000_0000_0000;
 // Room for three numbers that begin at a byte up to 7.
 pub const FIELDS: usize = 32;
 
-pub fn put_moduli(list: &mut [u8]) {
-    let moduli = layout().moduli;
+pub fn put_moduli<R: Env>(rt: &R, list: &mut [u8]) {
+    let moduli = layout(rt).moduli;
     put_numbers(list, &moduli);
 }
 
-pub fn put_offsets(list: &mut [u8]) {
-    let offsets = layout().offsets;
+pub fn put_offsets<R: Env>(rt: &R, list: &mut [u8]) {
+    let offsets = layout(rt).offsets;
     put_numbers(list, &offsets);
 }
 
 // The numbers of three fields. They begin at byte 0, which the compiler cannot know, so that they are as unknown as the layout.
-pub fn fields(list: &[u8]) -> &[u8] {
+pub fn fields<R: Env>(rt: &R, list: &[u8]) -> &[u8] {
     if list.len() < FIELDS {
         return list;
     }
-    let from = (unknown_zero() % 8) as usize;
+    let from = (unknown_zero(rt) % 8) as usize;
     let end = from + 24;
     &list[from..end]
 }

@@ -1,9 +1,12 @@
 // The C calls beside the inner calls: the same questions under the same tables, in bytes.
+#![tactic(auto)]
 ghost use Rattle.std.specs.Prelude.{◌≤◌, ◌<◌, length};
 
 use bench_bytes::{FIELDS, fields, first, put_moduli, put_numbers, put_offsets, returned};
 use bench_partitions::{Question, prepare, slots, total};
-use bench_report::{LAST, layout, line, mixed, next, often, scaled, table_line};
+use bench_report::{LAST, clock, layout, line, mixed, next, often, scaled, table_line};
+use std::io;
+use std::rt::{CpuClock, Env};
 
 const MOST_ROWS: usize = 9_999;
 
@@ -11,22 +14,23 @@ const MOST_ROWS: usize = 9_999;
 const MOST_BYTES: usize = 79_992;
 
 // Text and counts, then stamps and messages under more and more partitions.
-pub fn bench(timed: bool) {
+pub fn bench<R: Env + CpuClock + Print>(rt: &R, timed: bool) -> io::Result<()> {
     let mut moduli = [0u8; FIELDS];
     let mut offsets = [0u8; FIELDS];
-    put_moduli(&mut moduli);
-    put_offsets(&mut offsets);
-    bench_all(timed, &moduli, &offsets);
+    put_moduli(rt, &mut moduli);
+    put_offsets(rt, &mut offsets);
+    bench_all(rt, timed, &moduli, &offsets)
 }
 
-fn bench_all(timed: bool, moduli: &[u8], offsets: &[u8]) {
+fn bench_all<R: Env + CpuClock + Print>(rt: &R, timed: bool, moduli: &[u8], offsets: &[u8]) -> io::Result<()> {
     let mut starts = [0u64; MOST_ROWS];
     let mut ends = [0u64; MOST_ROWS];
     let mut slots = [0u8; slots::ALL];
-    prepare(&mut starts, &mut ends, &mut slots, 1);
+    prepare(rt, &mut starts, &mut ends, &mut slots, 1);
     let asked = often(timed, 5_000_000, 1_000);
-    bench_texts(timed, moduli, offsets, &slots, asked);
+    bench_texts(rt, timed, moduli, offsets, &slots, asked)?;
     bench_rows(
+        rt,
         timed,
         moduli,
         offsets,
@@ -35,9 +39,10 @@ fn bench_all(timed: bool, moduli: &[u8], offsets: &[u8]) {
         &mut slots,
         1,
         asked,
-    );
+    )?;
     let asked = often(timed, 1_000_000, 100);
     bench_rows(
+        rt,
         timed,
         moduli,
         offsets,
@@ -46,9 +51,10 @@ fn bench_all(timed: bool, moduli: &[u8], offsets: &[u8]) {
         &mut slots,
         100,
         asked,
-    );
+    )?;
     let asked = often(timed, 10_000, 100);
     bench_rows(
+        rt,
         timed,
         moduli,
         offsets,
@@ -57,15 +63,16 @@ fn bench_all(timed: bool, moduli: &[u8], offsets: &[u8]) {
         &mut slots,
         MOST_ROWS,
         asked,
-    );
+    )
 }
 
-fn bench_texts(timed: bool, moduli: &[u8], offsets: &[u8], slots: &[u8], asked: u64) {
-    let from = libc::clock();
-    let sum = bench_partitions::checksum(Question::Text, &[], &[], slots, LAST, asked);
-    line(b"read-text", asked, sum, timed, from);
-    let from = libc::clock();
+fn bench_texts<R: Env + CpuClock + Print>(rt: &R, timed: bool, moduli: &[u8], offsets: &[u8], slots: &[u8], asked: u64) -> io::Result<()> {
+    let from = clock(rt)?;
+    let sum = bench_partitions::checksum(rt, Question::Text, &[], &[], slots, LAST, asked);
+    line(rt, b"read-text", asked, sum, timed, from)?;
+    let from = clock(rt)?;
     let sum = checksum(
+        rt,
         Question::Text,
         moduli,
         offsets,
@@ -75,12 +82,13 @@ fn bench_texts(timed: bool, moduli: &[u8], offsets: &[u8], slots: &[u8], asked: 
         LAST,
         asked,
     );
-    line(b"c-read-text", asked, sum, timed, from);
-    let from = libc::clock();
-    let sum = bench_partitions::checksum(Question::Count, &[], &[], slots, LAST, asked);
-    line(b"print-count", asked, sum, timed, from);
-    let from = libc::clock();
+    line(rt, b"c-read-text", asked, sum, timed, from)?;
+    let from = clock(rt)?;
+    let sum = bench_partitions::checksum(rt, Question::Count, &[], &[], slots, LAST, asked);
+    line(rt, b"print-count", asked, sum, timed, from)?;
+    let from = clock(rt)?;
     let sum = checksum(
+        rt,
         Question::Count,
         moduli,
         offsets,
@@ -90,11 +98,12 @@ fn bench_texts(timed: bool, moduli: &[u8], offsets: &[u8], slots: &[u8], asked: 
         LAST,
         asked,
     );
-    line(b"c-print-count", asked, sum, timed, from);
+    line(rt, b"c-print-count", asked, sum, timed, from)
 }
 
 // The first `rows` of the lists become partitions, and the slots their messages.
-fn bench_rows(
+fn bench_rows<R: Env + CpuClock + Print>(
+    rt: &R,
     timed: bool,
     moduli: &[u8],
     offsets: &[u8],
@@ -103,20 +112,22 @@ fn bench_rows(
     slots: &mut [u8],
     rows: usize,
     asked: u64,
-)
+) -> io::Result<()>
     requires le_rows { (1 ≤ rows) × (rows < 10000) }
     requires rows_in_bounds { (rows ≤ length starts.old) × (rows ≤ length ends.old) }
 {
-    prepare(starts, ends, slots, rows);
+    prepare(rt, starts, ends, slots, rows);
     bench_partitions::bench(
+        rt,
         timed,
         &starts[0..rows],
         &ends[0..rows],
         slots,
         rows as u64,
         asked,
-    );
+    )?;
     ask_bytes(
+        rt,
         timed,
         moduli,
         offsets,
@@ -125,11 +136,12 @@ fn bench_rows(
         slots,
         rows as u64,
         asked,
-    );
+    )
 }
 
 // The C calls under the same partitions, in bytes.
-fn ask_bytes(
+fn ask_bytes<R: Env + CpuClock + Print>(
+    rt: &R,
     timed: bool,
     moduli: &[u8],
     offsets: &[u8],
@@ -138,7 +150,7 @@ fn ask_bytes(
     slots: &[u8],
     rows: u64,
     asked: u64,
-)
+) -> io::Result<()>
     requires { (1 ≤ rows) × (rows < 10000) }
 {
     let mut start_list = [0u8; MOST_BYTES];
@@ -146,6 +158,7 @@ fn ask_bytes(
     put_numbers(&mut start_list, starts);
     put_numbers(&mut end_list, ends);
     ask(
+        rt,
         timed,
         moduli,
         offsets,
@@ -154,10 +167,11 @@ fn ask_bytes(
         slots,
         rows,
         asked,
-    );
+    )
 }
 
-fn ask(
+fn ask<R: Env + CpuClock + Print>(
+    rt: &R,
     timed: bool,
     moduli: &[u8],
     offsets: &[u8],
@@ -166,12 +180,13 @@ fn ask(
     slots: &[u8],
     rows: u64,
     asked: u64,
-)
+) -> io::Result<()>
     requires { (1 ≤ rows) × (rows < 10000) }
 {
     let total = total(rows);
-    let from = libc::clock();
+    let from = clock(rt)?;
     let sum = checksum(
+        rt,
         Question::Stamp,
         moduli,
         offsets,
@@ -181,9 +196,10 @@ fn ask(
         total,
         asked,
     );
-    table_line(b"c-read-stamp", rows, asked, sum, timed, from);
-    let from = libc::clock();
+    table_line(rt, b"c-read-stamp", rows, asked, sum, timed, from)?;
+    let from = clock(rt)?;
     let sum = checksum(
+        rt,
         Question::Message,
         moduli,
         offsets,
@@ -193,9 +209,10 @@ fn ask(
         total,
         asked,
     );
-    table_line(b"c-read-message", rows, asked, sum, timed, from);
-    let from = libc::clock();
+    table_line(rt, b"c-read-message", rows, asked, sum, timed, from)?;
+    let from = clock(rt)?;
     let sum = checksum(
+        rt,
         Question::Encoded,
         moduli,
         offsets,
@@ -205,11 +222,12 @@ fn ask(
         total,
         asked,
     );
-    table_line(b"c-print-stamp", rows, asked, sum, timed, from);
+    table_line(rt, b"c-print-stamp", rows, asked, sum, timed, from)
 }
 
 // The checksum of so many answers. Counts are printed up to `total`.
-pub fn checksum(
+pub fn checksum<R: Env>(
+    rt: &R,
     question: Question,
     moduli: &[u8],
     offsets: &[u8],
@@ -227,9 +245,10 @@ pub fn checksum(
     while k < asked {
         x = next(x);
         let answer = answer(
+            rt,
             question,
-            fields(moduli),
-            fields(offsets),
+            fields(rt, moduli),
+            fields(rt, offsets),
             starts,
             ends,
             slots,
@@ -242,7 +261,8 @@ pub fn checksum(
     sum
 }
 
-fn answer(
+fn answer<R: Env>(
+    rt: &R,
     question: Question,
     moduli: &[u8],
     offsets: &[u8],
@@ -254,7 +274,7 @@ fn answer(
 ) -> u64
     requires { at < 5120 }
 {
-    let layout = layout();
+    let layout = layout(rt);
     let n = layout.n as u64;
     let delimiter = layout.delimiter as u64;
     match question {

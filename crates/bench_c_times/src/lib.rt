@@ -1,16 +1,19 @@
 // Count to time and time to count by the C calls, under one partition.
+#![tactic(auto)]
 ghost use Rattle.std.specs.Prelude.{◌<◌};
 
 use bench_bytes::{
     FIELDS, ZERO, fields, first, put_moduli, put_numbers, put_offsets, put_times, returned,
 };
-use bench_report::{LAST, latest, layout, mixed, next, scaled, table_line};
+use bench_report::{LAST, clock, latest, layout, mixed, next, scaled, table_line};
+use std::io;
+use std::rt::{CpuClock, Env};
 
 // The bytes of the longest list.
 const MOST_BYTES: usize = 80_000;
 
 // The questions that `bench_rows` asks under the same segments.
-pub fn bench(timed: bool, counts: &[u64], times: &[i64], rates: &[u64], asked: u64) {
+pub fn bench<R: Env + CpuClock + Print>(rt: &R, timed: bool, counts: &[u64], times: &[i64], rates: &[u64], asked: u64) -> io::Result<()> {
     let mut count_list = [0u8; MOST_BYTES];
     let mut time_list = [0u8; MOST_BYTES];
     let mut rate_list = [0u8; MOST_BYTES];
@@ -19,6 +22,7 @@ pub fn bench(timed: bool, counts: &[u64], times: &[i64], rates: &[u64], asked: u
     put_numbers(&mut rate_list, rates);
     let rows = counts.len();
     ask(
+        rt,
         timed,
         first(&count_list, rows),
         first(&time_list, rows),
@@ -26,7 +30,7 @@ pub fn bench(timed: bool, counts: &[u64], times: &[i64], rates: &[u64], asked: u
         rows as u64,
         last_of(counts),
         asked,
-    );
+    )
 }
 
 fn last_of(counts: &[u64]) -> u64 {
@@ -37,22 +41,24 @@ fn last_of(counts: &[u64]) -> u64 {
     counts[rows - 1]
 }
 
-fn ask(timed: bool, counts: &[u8], times: &[u8], rates: &[u8], rows: u64, last: u64, asked: u64) {
+fn ask<R: Env + CpuClock + Print>(rt: &R, timed: bool, counts: &[u8], times: &[u8], rates: &[u8], rows: u64, last: u64, asked: u64) -> io::Result<()> {
     let mut moduli = [0u8; FIELDS];
     let mut offsets = [0u8; FIELDS];
     let mut starts = [0u8; 8];
     let mut ends = [0u8; 8];
-    put_moduli(&mut moduli);
-    put_offsets(&mut offsets);
+    put_moduli(rt, &mut moduli);
+    put_offsets(rt, &mut offsets);
     put_numbers(&mut starts, &[0]);
     put_numbers(&mut ends, &[LAST]);
-    let from = libc::clock();
+    let from = clock(rt)?;
     let sum = times_of(
+        rt,
         &moduli, &offsets, &starts, &ends, counts, times, rates, asked,
     );
-    table_line(b"c-time-of", rows, asked, sum, timed, from);
-    let from = libc::clock();
+    table_line(rt, b"c-time-of", rows, asked, sum, timed, from)?;
+    let from = clock(rt)?;
     let sum = counts_at(
+        rt,
         &moduli,
         &offsets,
         &starts,
@@ -63,10 +69,11 @@ fn ask(timed: bool, counts: &[u8], times: &[u8], rates: &[u8], rows: u64, last: 
         asked,
         latest(last),
     );
-    table_line(b"c-count-at", rows, asked, sum, timed, from);
+    table_line(rt, b"c-count-at", rows, asked, sum, timed, from)
 }
 
-fn times_of(
+fn times_of<R: Env>(
+    rt: &R,
     moduli: &[u8],
     offsets: &[u8],
     starts: &[u8],
@@ -82,8 +89,9 @@ fn times_of(
     while k < asked {
         x = next(x);
         let answer = time_of(
-            fields(moduli),
-            fields(offsets),
+            rt,
+            fields(rt, moduli),
+            fields(rt, offsets),
             starts,
             ends,
             counts,
@@ -97,7 +105,8 @@ fn times_of(
     sum
 }
 
-fn time_of(
+fn time_of<R: Env>(
+    rt: &R,
     moduli: &[u8],
     offsets: &[u8],
     starts: &[u8],
@@ -107,7 +116,7 @@ fn time_of(
     rates: &[u8],
     encoded: u64,
 ) -> u64 {
-    let layout = layout();
+    let layout = layout(rt);
     let mut time = [0u8; 8];
     let answer = sclk_c::sclk_time_of(
         layout.n as u64,
@@ -136,7 +145,8 @@ fn written(time: &[u8; 8]) -> u64 {
     std::num::wrapping_add_u64(byte_lists::number_at(time, 0), ZERO)
 }
 
-fn counts_at(
+fn counts_at<R: Env>(
+    rt: &R,
     moduli: &[u8],
     offsets: &[u8],
     starts: &[u8],
@@ -155,8 +165,9 @@ fn counts_at(
     while k < asked {
         x = next(x);
         let answer = count_at(
-            fields(moduli),
-            fields(offsets),
+            rt,
+            fields(rt, moduli),
+            fields(rt, offsets),
             starts,
             ends,
             counts,
@@ -170,7 +181,8 @@ fn counts_at(
     sum
 }
 
-fn count_at(
+fn count_at<R: Env>(
+    rt: &R,
     moduli: &[u8],
     offsets: &[u8],
     starts: &[u8],
@@ -180,7 +192,7 @@ fn count_at(
     rates: &[u8],
     at: i64,
 ) -> u64 {
-    let layout = layout();
+    let layout = layout(rt);
     returned(sclk_c::sclk_count_at(
         layout.n as u64,
         layout.delimiter as u64,

@@ -1,9 +1,12 @@
 // Reading the kernel text of a table: a small one, the largest that the rules accept, and one segment larger.
+#![tactic(auto)]
 ghost use Rattle.std.specs.Prelude.{◌≡◌, ◌≤◌, length};
 
-use bench_report::{line, mixed, next, often};
+use bench_report::{clock, line, mixed, next, often};
 use kernel_rules::KernelAnswer;
 use rules::Layout;
+use std::io;
+use std::rt::{CpuClock, Env};
 
 const MOST_TEXT: usize = 850_000;
 
@@ -24,13 +27,13 @@ type Segments = [u64; MOST_SEGMENTS];
 
 type Times = [i64; MOST_SEGMENTS];
 
-pub fn bench(timed: bool) {
+pub fn bench<R: Env + CpuClock + Print>(rt: &R, timed: bool) -> io::Result<()> {
     let mut text = text_room();
     let asked = often(timed, 20_000, 20);
-    bench_table(timed, b"read-kernel-100", 100, 99, asked, &mut text);
+    bench_table(rt, timed, b"read-kernel-100", 100, 99, asked, &mut text)?;
     let asked = often(timed, 200, 2);
-    bench_table(timed, b"read-kernel-10000", 10_000, 9_999, asked, &mut text);
-    bench_table(timed, b"read-kernel-10001", 10_001, 9_999, asked, &mut text);
+    bench_table(rt, timed, b"read-kernel-10000", 10_000, 9_999, asked, &mut text)?;
+    bench_table(rt, timed, b"read-kernel-10001", 10_001, 9_999, asked, &mut text)
 }
 
 fn text_room() -> [u8; MOST_TEXT]
@@ -40,21 +43,22 @@ fn text_room() -> [u8; MOST_TEXT]
 }
 
 // A table with so many segments and partitions.
-fn bench_table(
+fn bench_table<R: Env + CpuClock + Print>(
+    rt: &R,
     timed: bool,
     name: &[u8],
     segments: u64,
     partitions: u64,
     asked: u64,
     text: &mut [u8],
-)
+) -> io::Result<()>
     requires le_segments { (1 ≤ segments) × (segments ≤ 10001) }
     requires le_partitions { (1 ≤ partitions) × (partitions ≤ 9999) }
 {
     let n = bench_text::fill(text, segments, partitions);
-    let from = libc::clock();
+    let from = clock(rt)?;
     let sum = marks(&text[0..n], segments, partitions, asked);
-    line(name, asked, sum, timed, from);
+    line(rt, name, asked, sum, timed, from)
 }
 
 fn marks(text: &[u8], segments: u64, partitions: u64, asked: u64) -> u64

@@ -1,13 +1,16 @@
 // Clock text and counts; stamps and messages under as many partitions as the name says.
+#![tactic(auto)]
 ghost use Rattle.std.specs.Prelude.{◌*◌, ◌≤◌, ◌<◌, length};
 
-use bench_report::{LAST, layout, mixed, next, scaled, table_line};
+use bench_report::{LAST, clock, layout, mixed, next, scaled, table_line};
 use rules::{PrintAnswer, ReadAnswer};
+use std::io;
+use std::rt::{CpuClock, Env};
 
 pub mod slots;
 
 // What is asked: a text, a stamp or a message is read, a count or an encoded count printed.
-#[derive(Drop)]
+#[derive(Clone, Copy)]
 pub enum Question {
     Text,
     Stamp,
@@ -17,27 +20,27 @@ pub enum Question {
 }
 
 // Stamps and messages under these partitions.
-pub fn bench(timed: bool, starts: &[u64], ends: &[u64], slots: &[u8], rows: u64, asked: u64)
+pub fn bench<R: Env + CpuClock + Print>(rt: &R, timed: bool, starts: &[u64], ends: &[u64], slots: &[u8], rows: u64, asked: u64) -> io::Result<()>
     requires { (1 ≤ rows) × (rows < 10000) }
 {
     let total = total(rows);
-    let from = libc::clock();
-    let sum = checksum(Question::Stamp, starts, ends, slots, total, asked);
-    table_line(b"read-stamp", rows, asked, sum, timed, from);
-    let from = libc::clock();
-    let sum = checksum(Question::Message, starts, ends, slots, total, asked);
-    table_line(b"read-message", rows, asked, sum, timed, from);
-    let from = libc::clock();
-    let sum = checksum(Question::Encoded, starts, ends, slots, total, asked);
-    table_line(b"print-stamp", rows, asked, sum, timed, from);
+    let from = clock(rt)?;
+    let sum = checksum(rt, Question::Stamp, starts, ends, slots, total, asked);
+    table_line(rt, b"read-stamp", rows, asked, sum, timed, from)?;
+    let from = clock(rt)?;
+    let sum = checksum(rt, Question::Message, starts, ends, slots, total, asked);
+    table_line(rt, b"read-message", rows, asked, sum, timed, from)?;
+    let from = clock(rt)?;
+    let sum = checksum(rt, Question::Encoded, starts, ends, slots, total, asked);
+    table_line(rt, b"print-stamp", rows, asked, sum, timed, from)
 }
 
 // The first `rows` of the lists become partitions, and the slots their messages.
-pub fn prepare(starts: &mut [u64], ends: &mut [u64], slots: &mut [u8], rows: usize)
+pub fn prepare<R: Env>(rt: &R, starts: &mut [u64], ends: &mut [u64], slots: &mut [u8], rows: usize)
     requires le_rows { (1 ≤ rows) × (rows < 10000) }
     requires rows_in_bounds { (rows ≤ length starts.old) × (rows ≤ length ends.old) }
 {
-    fill(starts, ends, rows, ticks(rows as u64));
+    fill(rt, starts, ends, rows, ticks(rows as u64));
     slots::fill(slots, &starts[0..rows], &ends[0..rows], total(rows as u64));
 }
 
@@ -58,7 +61,7 @@ pub fn total(rows: u64) -> u64
 }
 
 // The first `rows` of the lists become partitions of so many ticks; one tick is left out before the next.
-fn fill(starts: &mut [u64], ends: &mut [u64], rows: usize, ticks: u64)
+fn fill<R: Env>(rt: &R, starts: &mut [u64], ends: &mut [u64], rows: usize, ticks: u64)
     requires rows_bound { (rows < 10000) × (ticks < 4294967295) }
     requires rows_in_bounds { (rows ≤ length starts.old) × (rows ≤ length ends.old) }
 {
@@ -73,7 +76,8 @@ fn fill(starts: &mut [u64], ends: &mut [u64], rows: usize, ticks: u64)
 }
 
 // The checksum of so many answers. Counts are printed up to `total`.
-pub fn checksum(
+pub fn checksum<R: Env>(
+    rt: &R,
     question: Question,
     starts: &[u64],
     ends: &[u64],
@@ -89,6 +93,7 @@ pub fn checksum(
     while k < asked {
         x = next(x);
         let answer = answer(
+            rt,
             question,
             starts,
             ends,
@@ -102,7 +107,8 @@ pub fn checksum(
     sum
 }
 
-fn answer(
+fn answer<R: Env>(
+    rt: &R,
     question: Question,
     starts: &[u64],
     ends: &[u64],
@@ -113,16 +119,16 @@ fn answer(
     requires { at < 5120 }
 {
     match question {
-        Question::Text => read(text::read_text(layout(), slots::text(slots, at))),
-        Question::Stamp => read(text::read_stamp(layout(), starts, ends, slots::stamp(slots, at))),
+        Question::Text => read(text::read_text(layout(rt), slots::text(slots, at))),
+        Question::Stamp => read(text::read_stamp(layout(rt), starts, ends, slots::stamp(slots, at))),
         Question::Message => read(message::read_message(
-            layout(),
+            layout(rt),
             starts,
             ends,
             slots::message(slots, at),
         )),
-        Question::Count => print_count(count),
-        Question::Encoded => print_stamp(starts, ends, count),
+        Question::Count => print_count(rt, count),
+        Question::Encoded => print_stamp(rt, starts, ends, count),
     }
 }
 
@@ -133,15 +139,15 @@ fn read(answer: ReadAnswer) -> u64 {
     }
 }
 
-fn print_count(count: u64) -> u64 {
+fn print_count<R: Env>(rt: &R, count: u64) -> u64 {
     let mut buffer = [0u8; 32];
-    let printed = print::print_count(layout(), count, &mut buffer);
+    let printed = print::print_count(layout(rt), count, &mut buffer);
     slots::mark(length_of(printed), &buffer)
 }
 
-fn print_stamp(starts: &[u64], ends: &[u64], encoded: u64) -> u64 {
+fn print_stamp<R: Env>(rt: &R, starts: &[u64], ends: &[u64], encoded: u64) -> u64 {
     let mut buffer = [0u8; 32];
-    let printed = print::print_stamp(layout(), starts, ends, encoded, &mut buffer);
+    let printed = print::print_stamp(layout(rt), starts, ends, encoded, &mut buffer);
     slots::mark(length_of(printed), &buffer)
 }
 

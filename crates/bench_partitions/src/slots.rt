@@ -3,6 +3,7 @@
 ghost use Rattle.std.specs.Prelude.{◌<◌};
 
 use bench_report::{layout, next, scaled};
+use std::rt::Env;
 
 pub const ALL: usize = 5_120;
 
@@ -11,23 +12,23 @@ const SLOTS: usize = 256;
 const SLOT: usize = 20;
 
 // Stamps of encoded counts up to `total`.
-pub fn fill(slots: &mut [u8], starts: &[u64], ends: &[u64], total: u64)
+pub fn fill<R: Env>(rt: &R, slots: &mut [u8], starts: &[u64], ends: &[u64], total: u64)
     requires { total < 1000000000000 }
 {
     let mut x: u64 = 1;
     let mut i = 0;
     while i < SLOTS {
         x = next(x);
-        put(slots, i * SLOT, starts, ends, scaled(x, total));
+        put(rt, slots, i * SLOT, starts, ends, scaled(x, total));
         i += 1;
     }
 }
 
-fn put(slots: &mut [u8], at: usize, starts: &[u64], ends: &[u64], encoded: u64)
+fn put<R: Env>(rt: &R, slots: &mut [u8], at: usize, starts: &[u64], ends: &[u64], encoded: u64)
     requires { at < 5120 }
 {
     if at < slots.len() {
-        let printed = print::print_stamp(layout(), starts, ends, encoded, &mut slots[at..]);
+        let printed = print::print_stamp(layout(rt), starts, ends, encoded, &mut slots[at..]);
         let length = crate::length_of(printed) % SLOT;
         set(slots, at + length, 0);
         set(slots, at + length + 1, length as u8);

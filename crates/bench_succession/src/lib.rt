@@ -1,7 +1,10 @@
 // Whether a newer table succeeds an older one, and where their horizon is. The newer table has as many rows as there may be.
+#![tactic(auto)]
 use bench_partitions::prepare;
-use bench_report::{LAST, layout, line, mixed, often};
+use bench_report::{LAST, clock, layout, line, mixed, often};
 use succession_rules::{Failure, HorizonAnswer, SuccessionAnswer};
+use std::io;
+use std::rt::{CpuClock, Env};
 
 const PARTITIONS: usize = 9_999;
 
@@ -15,32 +18,33 @@ const OLDER_PARTITIONS: usize = 4_999;
 
 const OLDER_SEGMENTS: usize = 5_000;
 
-pub fn bench(timed: bool) {
+pub fn bench<R: Env + CpuClock + Print>(rt: &R, timed: bool) -> io::Result<()> {
     let mut starts = [0u64; PARTITIONS];
     let mut ends = [0u64; PARTITIONS];
     let mut counts = [0u64; SEGMENTS];
     let mut times = [0i64; SEGMENTS];
     let mut rates = [0u64; SEGMENTS];
-    prepare(&mut starts, &mut ends, &mut [], PARTITIONS);
+    prepare(rt, &mut starts, &mut ends, &mut [], PARTITIONS);
     bench_rows::fill(&mut counts, &mut times, &mut rates, SEGMENTS, TICKS);
-    bench_newer(timed, &starts, &ends, &counts, &times, &rates);
+    bench_newer(rt, timed, &starts, &ends, &counts, &times, &rates)
 }
 
 // The older table has the first half of this newer one's rows, or it is a copy of it.
-fn bench_newer(
+fn bench_newer<R: Env + CpuClock + Print>(
+    rt: &R,
     timed: bool,
     starts: &[u64],
     ends: &[u64],
     counts: &[u64],
     times: &[i64],
     rates: &[u64],
-) {
+) -> io::Result<()> {
     let mut older_starts = [0u64; PARTITIONS];
     let mut older_ends = [0u64; PARTITIONS];
     let mut older_counts = [0u64; SEGMENTS];
     let mut older_times = [0i64; SEGMENTS];
     let mut older_rates = [0u64; SEGMENTS];
-    prepare(&mut older_starts, &mut older_ends, &mut [], PARTITIONS);
+    prepare(rt, &mut older_starts, &mut older_ends, &mut [], PARTITIONS);
     bench_rows::fill(
         &mut older_counts,
         &mut older_times,
@@ -49,6 +53,7 @@ fn bench_newer(
         TICKS,
     );
     ask(
+        rt,
         timed,
         &older_starts[0..OLDER_PARTITIONS],
         &older_ends[0..OLDER_PARTITIONS],
@@ -62,8 +67,9 @@ fn bench_newer(
         rates,
         b"succeeds-longer",
         b"horizon-longer",
-    );
+    )?;
     ask(
+        rt,
         timed,
         &older_starts,
         &older_ends,
@@ -77,10 +83,11 @@ fn bench_newer(
         rates,
         b"succeeds-equal",
         b"horizon-equal",
-    );
+    )
 }
 
-fn ask(
+fn ask<R: Env + CpuClock + Print>(
+    rt: &R,
     timed: bool,
     older_starts: &[u64],
     older_ends: &[u64],
@@ -94,10 +101,11 @@ fn ask(
     rates: &[u64],
     succeeds_name: &[u8],
     horizon_name: &[u8],
-) {
+) -> io::Result<()> {
     let asked = often(timed, 5_000, 100);
-    let from = libc::clock();
+    let from = clock(rt)?;
     let sum = successions(
+        rt,
         older_starts,
         older_ends,
         older_counts,
@@ -110,9 +118,10 @@ fn ask(
         rates,
         asked,
     );
-    line(succeeds_name, asked, sum, timed, from);
-    let from = libc::clock();
+    line(rt, succeeds_name, asked, sum, timed, from)?;
+    let from = clock(rt)?;
     let sum = horizons(
+        rt,
         older_starts,
         older_ends,
         older_counts,
@@ -125,10 +134,11 @@ fn ask(
         rates,
         asked,
     );
-    line(horizon_name, asked, sum, timed, from);
+    line(rt, horizon_name, asked, sum, timed, from)
 }
 
-fn successions(
+fn successions<R: Env>(
+    rt: &R,
     older_starts: &[u64],
     older_ends: &[u64],
     older_counts: &[u64],
@@ -145,6 +155,7 @@ fn successions(
     let mut k: u64 = 0;
     while k < asked {
         let answer = succeeds(
+            rt,
             older_starts,
             older_ends,
             older_counts,
@@ -162,7 +173,8 @@ fn successions(
     sum
 }
 
-fn succeeds(
+fn succeeds<R: Env>(
+    rt: &R,
     older_starts: &[u64],
     older_ends: &[u64],
     older_counts: &[u64],
@@ -175,13 +187,13 @@ fn succeeds(
     rates: &[u64],
 ) -> u64 {
     match succession::succeeds(
-        layout(),
+        layout(rt),
         older_starts,
         older_ends,
         older_counts,
         older_times,
         older_rates,
-        layout(),
+        layout(rt),
         starts,
         ends,
         counts,
@@ -199,7 +211,8 @@ fn failed(failure: Failure) -> u64 {
     std::num::wrapping_add_u64(failure.row as u64, 2)
 }
 
-fn horizons(
+fn horizons<R: Env>(
+    rt: &R,
     older_starts: &[u64],
     older_ends: &[u64],
     older_counts: &[u64],
@@ -216,6 +229,7 @@ fn horizons(
     let mut k: u64 = 0;
     while k < asked {
         let answer = horizon(
+            rt,
             older_starts,
             older_ends,
             older_counts,
@@ -233,7 +247,8 @@ fn horizons(
     sum
 }
 
-fn horizon(
+fn horizon<R: Env>(
+    rt: &R,
     older_starts: &[u64],
     older_ends: &[u64],
     older_counts: &[u64],
@@ -246,13 +261,13 @@ fn horizon(
     rates: &[u64],
 ) -> u64 {
     match succession::horizon(
-        layout(),
+        layout(rt),
         older_starts,
         older_ends,
         older_counts,
         older_times,
         older_rates,
-        layout(),
+        layout(rt),
         starts,
         ends,
         counts,

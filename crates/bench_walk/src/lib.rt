@@ -1,9 +1,12 @@
 // Walking a dump of packets that is cut at random. Of each packet its length and three of its bytes are looked at.
+#![tactic(auto)]
 ghost use Rattle.std.specs.Prelude.{◌≡◌, ◌+◌, ◌-◌, ◌<◌, ◌≤◌, length};
 
-use bench_report::{fill_bytes, line, mixed, next, often};
+use bench_report::{clock, fill_bytes, line, mixed, next, often};
 use packet_rules::WalkStep;
 use packet_walk::{TAIL_ROOM, next_packet};
+use std::io;
+use std::rt::{CpuClock, Env};
 
 const DUMP: usize = 1_048_576;
 
@@ -14,7 +17,7 @@ const WALKED: usize = 67_108_864;
 const SHORTEST: usize = 7;
 
 // Where a walk is after a step.
-#[derive(Drop)]
+#[derive(Clone, Copy)]
 struct Turn {
     sum: u64,
     tail: usize,
@@ -23,13 +26,13 @@ struct Turn {
     done: bool,
 }
 
-pub fn bench(timed: bool) {
+pub fn bench<R: Env + CpuClock + Print>(rt: &R, timed: bool) -> io::Result<()> {
     let mut dump = dump_room();
     let asked = often(timed, 1_000, 1);
-    bench_dump(timed, b"walk-mixed", SHORTEST, true, asked, &mut dump);
-    bench_dump(timed, b"walk-1k", 1_024, false, asked, &mut dump);
+    bench_dump(rt, timed, b"walk-mixed", SHORTEST, true, asked, &mut dump)?;
+    bench_dump(rt, timed, b"walk-1k", 1_024, false, asked, &mut dump)?;
     let asked = often(timed, 20, 1);
-    bench_dump(timed, b"walk-7", SHORTEST, false, asked, &mut dump);
+    bench_dump(rt, timed, b"walk-7", SHORTEST, false, asked, &mut dump)
 }
 
 fn dump_room() -> [u8; DUMP]
@@ -45,15 +48,15 @@ fn tail_room() -> [u8; TAIL_ROOM]
 }
 
 // Packets of `least` bytes; or, where they are mixed, most of up to 4,095 more, every 64th the longest there is.
-fn bench_dump(timed: bool, name: &[u8], least: usize, mixed: bool, asked: u64, dump: &mut [u8])
+fn bench_dump<R: Env + CpuClock + Print>(rt: &R, timed: bool, name: &[u8], least: usize, mixed: bool, asked: u64, dump: &mut [u8]) -> io::Result<()>
     requires { (7 ≤ least) × (least ≤ 1024) }
 {
     fill_bytes(dump);
     set_lengths(dump, least, mixed);
     let mut buffer = tail_room();
-    let from = libc::clock();
+    let from = clock(rt)?;
     let sum = walks(&mut buffer, dump, asked);
-    line(name, asked, sum, timed, from);
+    line(rt, name, asked, sum, timed, from)
 }
 
 // The bytes become packets.

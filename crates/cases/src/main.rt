@@ -1,4 +1,8 @@
 // Runs the second implementation's samples, or any script.
-fn main() {
-    runner::run();
+#![tactic(auto)]
+
+use std::io;
+
+fn main(rt: HostRuntime) -> io::Result<()> {
+    runner::run(&mut rt.stdin(), &mut rt.stdout())
 }

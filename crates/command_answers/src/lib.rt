@@ -17,7 +17,7 @@ use rules::{CountAnswer, Layout, PrintAnswer, Refusal, StampAnswer, TimedStamp};
 use tables::Basis;
 
 // The place after the line that was put, and whether the line of input is answered well.
-#[derive(Drop)]
+#[derive(Clone, Copy)]
 pub struct Put {
     pub at: usize,
     pub well: bool,

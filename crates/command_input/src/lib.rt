@@ -11,7 +11,7 @@ const LINE_RETURN: u8 = 13;
 const LONGEST_HEX: usize = 4_000;
 
 // What a text in hex gives: how many bytes the message has that stands at the front of the lent buffer, or why there is none.
-#[derive(Drop)]
+#[derive(Clone, Copy)]
 pub enum HexGiven {
     Length(usize),
     Refused(Refusal),

@@ -21,7 +21,7 @@ const LONGEST_LINE: usize = 256;
 
 // Where the chunk goes on, how many bytes of the line under way are kept, how many bytes of answers are put,
 // and whether all these lines are answered well.
-#[derive(Drop)]
+#[derive(Clone, Copy)]
 pub struct Progress {
     pub at: usize,
     pub kept: usize,

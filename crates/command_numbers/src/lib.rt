@@ -22,13 +22,13 @@ const ZERO: u64 = 0x8000_0000_0000_0000;
 // A nanosecond is the ninth decimal of a second.
 const DECIMALS: usize = 9;
 
-#[derive(Drop)]
+#[derive(Clone, Copy)]
 pub enum CountGiven {
     Count(u64),
     Refused(Refusal),
 }
 
-#[derive(Drop)]
+#[derive(Clone, Copy)]
 pub enum TimeGiven {
     Time(i64),
     Refused(Refusal),

@@ -18,7 +18,7 @@ const LINE_END: u8 = b'\n';
 pub const LONGEST_PARTITION: usize = 94;
 
 // The row to go on with, and how many bytes were put.
-#[derive(Drop)]
+#[derive(Clone, Copy)]
 pub struct Rows {
     pub next: usize,
     pub put: usize,

@@ -1,7 +1,7 @@
 // The types that the definitions of the operator's command name.
 
 // What is asked of each line of input.
-#[derive(Drop)]
+#[derive(Clone, Copy)]
 pub enum Query {
     // A stamp: its encoded count and time.
     Time,

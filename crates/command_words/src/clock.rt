@@ -3,14 +3,14 @@ ghost use Rattle.std.specs.Prelude.{◌≡◌, ◌-◌, ◌≤◌, drop};
 ghost use Rattle.rules.specs.Text.{is_digit};
 ghost use Rattle.command_words.specs.Clock.{least, spelled, clock_of, below_zero, from_zero};
 
-#[derive(Drop)]
+#[derive(Clone, Copy)]
 pub enum ClockWord {
     Number(i64),
     Bad,
 }
 
 // Digits as a number up to a limit.
-#[derive(Drop)]
+#[derive(Clone, Copy)]
 pub enum Spelled {
     Number(u64),
     Bad,

@@ -6,7 +6,7 @@ use kernel_lines::line_bytes::same;
 
 pub mod clock;
 
-#[derive(Drop)]
+#[derive(Clone, Copy)]
 pub enum Command {
     Time,
     Stamp,
@@ -16,7 +16,7 @@ pub enum Command {
 }
 
 // The first word behind the program's name.
-#[derive(Drop)]
+#[derive(Clone, Copy)]
 pub enum First {
     Command(Command),
     Help,
@@ -24,7 +24,7 @@ pub enum First {
 }
 
 // A word behind the command. Unknown is an option that no command has, and a word that is too long.
-#[derive(Drop)]
+#[derive(Clone, Copy)]
 pub enum Later {
     Hex,
     Seconds,

@@ -4,7 +4,7 @@ ghost use Rattle.rules.specs.Partitions.{partitions};
 ghost use Rattle.rules.specs.Print.{partition_of, decoded_in};
 ghost use Rattle.decode.specs.Decodable.{Decodable};
 
-#[derive(Drop)]
+#[derive(Clone, Copy)]
 pub struct Decoded {
     // The partition's index, from 0.
     pub partition: usize,

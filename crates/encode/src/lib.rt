@@ -8,7 +8,7 @@ ghost use Rattle.encode.specs.Encoded.{encoded_answer};
 use rules::Refusal;
 
 // An encoded count.
-#[derive(Drop)]
+#[derive(Clone, Copy)]
 pub enum Encoded {
     Count(u64),
     Refused(Refusal),

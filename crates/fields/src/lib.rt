@@ -14,7 +14,7 @@ const FIELD_CAP: u64 = LARGEST_FIELD + 1;
 const SUM_CAP: u64 = Layout::LARGEST_P + 1;
 
 // What is wrong with the fields of a text: the first field is missing, a field is below its offset or too large, there is one too many.
-#[derive(Drop)]
+#[derive(Clone, Copy)]
 pub enum Fault {
     None,
     Missing,
@@ -24,7 +24,7 @@ pub enum Fault {
 }
 
 // What is known after some bytes of a text. Numbers by themselves, so that a step keeps them in registers.
-#[derive(Drop)]
+#[derive(Clone, Copy)]
 pub struct Pass {
     // The field at hand, from 0; the number of fields for every surplus one.
     pub field: usize,
@@ -44,7 +44,7 @@ pub struct Pass {
 }
 
 // A pass up to the place `at`, where it stops or the text ends.
-#[derive(Drop)]
+#[derive(Clone, Copy)]
 pub struct Scanned {
     pub at: usize,
     pub pass: Pass,

@@ -12,7 +12,7 @@ use kernel_rules::Stage;
 // How many names there are. A line that assigns none of them has this number.
 const NAMES: usize = 10;
 
-#[derive(Drop)]
+#[derive(Clone, Copy)]
 pub struct Found {
     // The text's form is kept and no name is assigned twice.
     pub good: bool,

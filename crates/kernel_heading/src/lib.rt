@@ -10,7 +10,7 @@ use kernel_rules::Number;
 use kernel_values::{One, both, is_formed, is_unsigned, read_one, unsigned_of};
 
 // All are given as they may be, n and the delimiter are exact, and the three numbers.
-#[derive(Drop)]
+#[derive(Clone, Copy)]
 pub struct Heading {
     pub good: bool,
     pub exact: bool,
@@ -19,7 +19,7 @@ pub struct Heading {
     pub system: u8,
 }
 
-#[derive(Drop)]
+#[derive(Clone, Copy)]
 pub struct Single {
     pub good: bool,
     pub number: Number,

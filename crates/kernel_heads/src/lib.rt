@@ -9,7 +9,7 @@ use kernel_lines::line_bytes::{after_gap, is_gap, trim_gaps};
 const LONGEST_NAME: usize = 32;
 
 // A part of a line: its first place, and the place behind it.
-#[derive(Drop)]
+#[derive(Clone, Copy)]
 pub struct Part {
     pub start: usize,
     pub end: usize,

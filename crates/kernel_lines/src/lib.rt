@@ -10,14 +10,14 @@ const BLANK: u8 = 32;
 
 const RETURN: u8 = 13;
 
-#[derive(Drop)]
+#[derive(Clone, Copy)]
 pub struct KernelText<'a> {
     pub text: &'a [u8],
     pub at: usize,
 }
 
 // The places of a line in its text: its first byte, the end of what is kept of it, and the first byte of the next line.
-#[derive(Drop)]
+#[derive(Clone, Copy)]
 pub struct Line {
     pub start: usize,
     pub end: usize,

@@ -9,7 +9,7 @@ ghost use Rattle.kernel_listing.specs.Listed.{listed_of, rows_of, Room, ListsKep
 
 use kernel_values::{both, fill_list, fill_rows};
 
-#[derive(Drop)]
+#[derive(Clone, Copy)]
 pub struct Listing {
     pub good: bool,
     pub exact: bool,
@@ -22,14 +22,14 @@ pub struct Listing {
     pub rates: usize,
 }
 
-#[derive(Drop)]
+#[derive(Clone, Copy)]
 pub struct Listed {
     pub good: bool,
     pub exact: bool,
     pub count: usize,
 }
 
-#[derive(Drop)]
+#[derive(Clone, Copy)]
 pub struct Rows {
     pub good: bool,
     pub exact: bool,

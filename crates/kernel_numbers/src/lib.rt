@@ -8,7 +8,7 @@ ghost use Rattle.kernel_numbers.specs.Pass.{digits, beyond, few, Fitting, with_d
 use kernel_rules::{LONGEST_LINE, Number};
 
 // A number as `head` with `zeros` zeros behind it. Over: it has no room in 64 bits, also without the zeros at its end.
-#[derive(Drop)]
+#[derive(Clone, Copy)]
 pub struct Digits {
     pub over: bool,
     pub head: u64,
@@ -16,21 +16,21 @@ pub struct Digits {
 }
 
 // The digits up to the place `at`.
-#[derive(Drop)]
+#[derive(Clone, Copy)]
 pub struct Run {
     pub at: usize,
     pub digits: Digits,
 }
 
 // The same where the digits have room.
-#[derive(Drop)]
+#[derive(Clone, Copy)]
 pub struct Few {
     pub at: usize,
     pub head: u64,
 }
 
 // The exponent up to the place `at`, without its sign.
-#[derive(Drop)]
+#[derive(Clone, Copy)]
 pub struct Power {
     pub at: usize,
     pub value: usize,

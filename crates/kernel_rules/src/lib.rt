@@ -1,11 +1,12 @@
 // The types that the definitions of kernel text name.
+#![tactic(auto)]
 use rules::Refusal;
 
 // Bytes of a data line.
 pub const LONGEST_LINE: usize = 132;
 
 // Where a line of a kernel text ends.
-#[derive(Drop)]
+#[derive(Clone, Copy)]
 pub enum Stage {
     // Outside data blocks.
     Comment,
@@ -22,7 +23,7 @@ pub enum Stage {
 }
 
 // What follows an opening quote: its bytes up to the closing quote and with it, its characters, and whether it is closed.
-#[derive(Drop)]
+#[derive(Clone, Copy)]
 pub struct Quoted {
     pub width: usize,
     pub chars: usize,
@@ -30,7 +31,7 @@ pub struct Quoted {
 }
 
 // A value in whole units: no number, one that is not exact in 64 bits, or a sign and the number.
-#[derive(Drop)]
+#[derive(Clone, Copy)]
 pub enum Number {
     Malformed,
     Inexact,
@@ -39,7 +40,7 @@ pub enum Number {
 }
 
 // What reading a kernel gives beside the lists.
-#[derive(Drop)]
+#[derive(Clone, Copy)]
 pub struct Kernel {
     pub n: usize,
     pub delimiter: u8,
@@ -48,7 +49,7 @@ pub struct Kernel {
     pub segments: usize,
 }
 
-#[derive(Drop)]
+#[derive(Clone, Copy)]
 pub enum KernelAnswer {
     Read(Kernel),
     Refused(Refusal),

@@ -18,7 +18,7 @@ const PICOSECONDS: usize = 12;
 const LIMIT: u64 = 9223372036854775808;
 
 // What reading a list gives: whether the operator is a plain `=`, how many values there are, whether all are numbers, and whether all are exact in their units.
-#[derive(Drop)]
+#[derive(Clone, Copy)]
 pub struct Filled {
     pub plain: bool,
     pub count: usize,
@@ -27,7 +27,7 @@ pub struct Filled {
 }
 
 // What reading a name of one value gives.
-#[derive(Drop)]
+#[derive(Clone, Copy)]
 pub struct One {
     pub plain: bool,
     pub single: bool,
@@ -35,7 +35,7 @@ pub struct One {
 }
 
 // Whether a value is a number, and whether it is exact in its unit.
-#[derive(Drop)]
+#[derive(Clone, Copy)]
 struct Judged {
     number: bool,
     exact: bool,

@@ -6,7 +6,7 @@ ghost use Rattle.kernel_rules.specs.Assignments.{is_plus, tokens_of_lines, value
 ghost use Rattle.kernel_walk.specs.Places.{is_between, line_here, values_from, values_with, values_here, Within};
 
 // A value by its places in the text, and where those after it begin: behind it on its line, which ends at `end`, and on the lines from `next` on.
-#[derive(Drop)]
+#[derive(Clone, Copy)]
 pub struct Value {
     pub found: bool,
     pub from: usize,

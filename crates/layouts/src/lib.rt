@@ -10,13 +10,13 @@ use wide::mul_capped;
 pub mod limits;
 
 // Of an accepted layout: the product of its moduli P, and the unit 1,000×MSF by which a rate is divided.
-#[derive(Drop)]
+#[derive(Clone, Copy)]
 pub struct Measured {
     pub product: u64,
     pub unit: u64,
 }
 
-#[derive(Drop)]
+#[derive(Clone, Copy)]
 pub enum MeasureAnswer {
     Accepted(Measured),
     Refused(Refusal),

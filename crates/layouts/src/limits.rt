@@ -24,7 +24,7 @@ pub const LARGEST_RATE: u64 = 1_000_000_000_000_000;
 pub const LONGEST_TEXT: usize = 96;
 
 // Every limit of the code, those of the layout type first.
-#[derive(Drop)]
+#[derive(Clone, Copy)]
 pub struct Limits {
     pub most_fields: usize,
     pub largest_p: u64,

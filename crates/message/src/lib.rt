@@ -11,7 +11,7 @@ use rules::{Layout, ReadAnswer, Refusal};
 use text::read_stamp;
 
 // Where the text begins.
-#[derive(Drop)]
+#[derive(Clone, Copy)]
 pub enum TextStart {
     At(usize),
     Refused(Refusal),

@@ -21,7 +21,7 @@ use wide::mul_add_capped;
 const TIME_START: usize = 7;
 
 // The octets of a packet's time, where the packet's form is good.
-#[derive(Drop)]
+#[derive(Clone, Copy)]
 pub enum Form {
     Octets(TimeOctets),
     Refused(Refusal),

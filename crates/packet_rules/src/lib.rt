@@ -1,9 +1,10 @@
 // The types that the definitions of satellite packets name.
+#![tactic(auto)]
 use rules::Refusal;
 
 // The fields of a packet's primary header that are handed through as they are. Its version, its secondary header flag and its
 // length follow from what the packet is.
-#[derive(Drop)]
+#[derive(Clone, Copy)]
 pub struct PacketHeader {
     // The packet type: 0 telemetry, 1 telecommand.
     pub kind: u8,
@@ -16,7 +17,7 @@ pub struct PacketHeader {
 }
 
 // How many octets a CUC time has: of whole units, and of fractions.
-#[derive(Drop)]
+#[derive(Clone, Copy)]
 pub struct TimeOctets {
     pub coarse: u8,
     pub fine: u8,
@@ -24,7 +25,7 @@ pub struct TimeOctets {
 
 // What reading a packet gives: the header's fields, the time's octets, where the data after the time begin (from the packet's
 // first byte), the clock's count, and its encoded count.
-#[derive(Drop)]
+#[derive(Clone, Copy)]
 pub struct Packet {
     pub header: PacketHeader,
     pub octets: TimeOctets,
@@ -33,14 +34,14 @@ pub struct Packet {
     pub encoded: u64,
 }
 
-#[derive(Drop)]
+#[derive(Clone, Copy)]
 pub enum PacketAnswer {
     Read(Packet),
     Refused(Refusal),
 }
 
 // What one step of a walk finds.
-#[derive(Drop)]
+#[derive(Clone, Copy)]
 pub enum WalkStep {
     // A whole packet in the chunk, from `start` up to `end`, where the walk goes on.
     InChunk(Span),
@@ -52,14 +53,14 @@ pub enum WalkStep {
 }
 
 // A part of a chunk.
-#[derive(Drop)]
+#[derive(Clone, Copy)]
 pub struct Span {
     pub start: usize,
     pub end: usize,
 }
 
 // A packet that was joined in the tail buffer, and where the chunk goes on behind it.
-#[derive(Drop)]
+#[derive(Clone, Copy)]
 pub struct Joined {
     pub length: usize,
     pub at: usize,

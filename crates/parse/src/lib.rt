@@ -11,7 +11,7 @@ use layouts::limits::LONGEST_TEXT;
 use rules::{ReadAnswer, Reading, Refusal};
 
 // A stamp as it is written: the partition's number where one stands in front, and the count of its clock text.
-#[derive(Drop)]
+#[derive(Clone, Copy)]
 pub enum ParsedStamp {
     Named(u64, Reading),
     Unnamed(Reading),

@@ -8,7 +8,7 @@ use layouts::limits::MOST_PARTITIONS;
 use rules::{Layout, Refusal};
 
 // The total of accepted partitions.
-#[derive(Drop)]
+#[derive(Clone, Copy)]
 pub enum TotalAnswer {
     Total(u64),
     Refused(Refusal),

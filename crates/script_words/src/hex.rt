@@ -5,13 +5,13 @@ ghost use Rattle.script_words.specs.Words.{LengthBy};
 use crate::numbers;
 use crate::numbers::Digit;
 
-#[derive(Drop)]
+#[derive(Clone, Copy)]
 pub enum ByteWord {
     Length(usize),
     Bad,
 }
 
-#[derive(Drop)]
+#[derive(Clone, Copy)]
 enum OneByte {
     Spelled(u8),
     Bad,

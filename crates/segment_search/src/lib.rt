@@ -5,7 +5,7 @@ ghost use Rattle.rules.specs.Time.{segment_of, segment_at};
 ghost use Rattle.segment_search.specs.Found.{found};
 ghost use Rattle.segment_search.specs.Growing.{CountsGrow, TimesGrow};
 
-#[derive(Drop)]
+#[derive(Clone, Copy)]
 pub enum Found {
     Row(usize),
     Nothing,

@@ -9,7 +9,7 @@ use rules::Refusal;
 
 pub mod row;
 
-#[derive(Drop)]
+#[derive(Clone, Copy)]
 pub enum CheckAnswer {
     Accepted,
     Refused(Refusal),

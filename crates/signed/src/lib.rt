@@ -1,5 +1,6 @@
 // Signed numbers: how much later one time is than another, a time so much later, a number without its sign, and one in offset binary.
 // Only this crate has signed arithmetic.
+#![tactic(auto)]
 ghost use Rattle.std.specs.Prelude.{◌≡◌, true, ◌^◌, ◌<◌, nat_abs};
 ghost use Rattle.std.specs.Int.Signed.{le_z, mag};
 ghost use Rattle.base.specs.Signed.{ordinal as ordinalOf, later as later_of, elapsed as elapsedOf};

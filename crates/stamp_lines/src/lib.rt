@@ -1,26 +1,31 @@
 // The stamp program: stamps from standard input under table A, for each line its encoded count and its time, or `refused`,
 // the number and its place. `run`, `write_answers` and `write_last` move bytes by system calls; all else works on slices, and its contracts say
 // every byte.
-ghost use Rattle.std.specs.Prelude.{◌≡◌, ◌+◌, ◌≤◌, min, length, take, replicate};
+#![tactic(auto)]
+
+ghost use Rattle.std.specs.Prelude.{◌≡◌, ◌+◌, ◌-◌, ◌^◌, ◌<◌, ◌≤◌, min, length, take, replicate, IfOk, OnOk, IfSome};
 ghost use Rattle.rules.specs.Answer.{stamp_answer};
 ghost use Rattle.rules.specs.Examples.{layout_a};
 ghost use Rattle.lines.specs.Steps.{line_left};
 ghost use Rattle.decimal.specs.Writing.{Written};
 ghost use Rattle.line_output.specs.Pieces.{last_answer, ended_answer, Answered};
-ghost use Rattle.stamp_lines.specs.Output.{line_stamp, answer_line, longest_answer};
+ghost use Rattle.std.specs.Io.KnownBytes.{Appends};
+ghost use Rattle.line_output.specs.Pieces.{piece_answers};
+ghost use Rattle.stamp_lines.specs.Output.{line_stamp, answer_line, stamp_output, longest_answer};
 ghost use Rattle.stamp_lines.specs.Pieces.{line_buffer, ToTheEnd};
 
 use crate::put::{LONGEST_ANSWER, put_stamp};
-use libc::{STDIN_FILENO, STDOUT_FILENO};
 use line_output::kept_after;
 use lines::LineStep;
 use rules::{Layout, StampAnswer};
 use stamp_time::time_of_stamp;
+use std::io;
+use std::io::{Read, Write};
 
 mod put;
 
 // Where the chunk goes on, how many bytes of the line under way are kept, and how many bytes of answers are put.
-#[derive(Drop)]
+#[derive(Clone, Copy)]
 pub struct Progress {
     pub at: usize,
     pub kept: usize,
@@ -28,67 +33,76 @@ pub struct Progress {
 }
 
 // How many reads brought bytes, and how many bytes the last one brought.
-#[derive(Drop)]
+#[derive(Clone, Copy)]
 pub struct Reads {
     pub made: u64,
     pub last: usize,
 }
 
-// Reads standard input to its end and writes the answers of its lines. Every line that has ended is answered before more input
-// is asked for.
-pub fn run(line: &mut [u8]) -> Reads
+// Reads the input to its end and writes the answers of its lines. Every line that has ended is answered before more input
+// is asked for. Where no read and no write fails, and the reads can be counted, the answers of the whole input are written.
+pub fn run<R: Read, W: Write>(input: &mut R, output: &mut W, line: &mut [u8]) -> io::Result<Reads>
     requires { line.old ≡ replicate line_buffer 0 }
-    ensures { ToTheEnd result }
+    ensures ended { IfOk result (λ reads. ToTheEnd reads) }
+    ensures whole_output { IfOk result (λ reads. reads.made < 2 ^ 64 - 1 → IfSome (R.remaining input.old) (λ bytes. Appends (W.contents output.old) (W.contents output.new) (stamp_output bytes))) }
 {
-    let mut chunk = io::large_buffer();
-    let mut buffer = io::buffer();
-    let out: &mut [u8] = &mut buffer;
+    let mut chunk = [0u8; 65_536];
+    let mut out = [0u8; 4_096];
     let mut kept = 0;
+    let mut last = 0;
     // The loop ends with the input; the number of reads shows that it ends at all.
-    let mut made: u64 = 0;
-    let mut last: usize = 0;
-    while made < u64::MAX {
-        let got = libc::read(STDIN_FILENO, &mut chunk);
-        let n = io::count(got, &chunk);
+    for made in 0..u64::MAX {
+        let n = input.read(&mut chunk)?;
         if n == 0 {
-            write_last(line, kept, out);
-            return Reads { made, last: n };
+            write_last(output, line, kept, &mut out)?;
+            return Ok(Reads { made, last: n });
         }
-        kept = write_answers(&chunk[..n], line, kept, out);
+        kept = write_answers(output, &chunk[..n], line, kept, &mut out)?;
         last = n;
-        made += 1;
     }
-    write_last(line, kept, out);
-    Reads { made, last }
+    write_last(output, line, kept, &mut out)?;
+    Ok(Reads {
+        made: u64::MAX,
+        last,
+    })
 }
 
 // Writes the answers of the lines that end in the chunk. How many bytes of the line under way are kept.
-fn write_answers(chunk: &[u8], line: &mut [u8], kept: usize, out: &mut [u8]) -> usize
+fn write_answers<W: Write>(
+    output: &mut W,
+    chunk: &[u8],
+    line: &mut [u8],
+    kept: usize,
+    out: &mut [u8],
+) -> io::Result<usize>
     requires line_len { length line.old ≡ line_buffer }
     requires kept_le_line_buffer { kept ≤ line_buffer }
     requires longest_answer_in_bounds { longest_answer ≤ length out.old }
-    ensures upper_bound { result ≤ line_buffer }
-    ensures line_after { take result line.new ≡ line_left line_buffer (take kept line.old) chunk.now }
+    ensures out_len { length out.new ≡ length out.old }
+    ensures line_len_after { length line.new ≡ line_buffer }
+    ensures upper_bound { IfOk result (λ held. held ≤ line_buffer) }
+    ensures line_after { IfOk result (λ held. take held line.new ≡ line_left line_buffer (take kept line.old) chunk.now) }
+    ensures written { OnOk result (Appends (W.contents output.old) (W.contents output.new) (piece_answers answer_line line_buffer (take kept line.old) chunk.now)) }
 {
     let mut at = 0;
     let mut held = kept;
     while at < chunk.len() {
         let place = answer_chunk(chunk, at, line, held, out);
-        let put = place.put;
-        io::write_all(STDOUT_FILENO, &out[..put]);
+        output.write_all(&out[..place.put])?;
         at = place.at;
         held = place.kept;
     }
-    held
+    Ok(held)
 }
 
 // Writes the answer of a last line without byte 10.
-fn write_last(line: &[u8], kept: usize, out: &mut [u8])
+fn write_last<W: Write>(output: &mut W, line: &[u8], kept: usize, out: &mut [u8]) -> io::Result<()>
     requires kept_in_bounds { kept ≤ length line.now }
     requires longest_answer_in_bounds { longest_answer ≤ length out.old }
+    ensures written { OnOk result (Appends (W.contents output.old) (W.contents output.new) (last_answer answer_line (take kept line.now))) }
 {
     let put = answer_last(line, kept, out);
-    io::write_all(STDOUT_FILENO, &out[..put]);
+    output.write_all(&out[..put])
 }
 
 // Puts the answers of the lines that end in the chunk from `at` on to the front of the buffer, until the chunk is used up or the

@@ -2,7 +2,7 @@
 use rules::Refusal;
 
 // What a newer table must meet to succeed an older one, in the order in which it is asked.
-#[derive(Drop)]
+#[derive(Clone, Copy)]
 pub enum Condition {
     Layout,
     Partition,
@@ -12,14 +12,14 @@ pub enum Condition {
 }
 
 // The first condition that fails, and the first row where it does, from 0; 0 for the layout.
-#[derive(Drop)]
+#[derive(Clone, Copy)]
 pub struct Failure {
     pub condition: Condition,
     pub row: usize,
 }
 
 // Whether the newer table succeeds the older.
-#[derive(Drop)]
+#[derive(Clone, Copy)]
 pub enum SuccessionAnswer {
     Succeeds,
     Fails(Failure),
@@ -28,7 +28,7 @@ pub enum SuccessionAnswer {
 }
 
 // The encoded count below which the two tables agree.
-#[derive(Drop)]
+#[derive(Clone, Copy)]
 pub enum HorizonAnswer {
     Horizon(u64),
     OlderRefused(Refusal),

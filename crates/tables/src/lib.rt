@@ -14,13 +14,13 @@ use rules::{Layout, Refusal, StepsBackAnswer};
 use segments::CheckAnswer;
 
 // Of accepted tables: the unit 1,000×MSF by which a rate is divided, and the total.
-#[derive(Drop)]
+#[derive(Clone, Copy)]
 pub struct Basis {
     pub unit: u64,
     pub total: u64,
 }
 
-#[derive(Drop)]
+#[derive(Clone, Copy)]
 pub enum Acceptance {
     Accepted(Basis),
     Refused(Refusal),

@@ -1,9 +1,10 @@
 // Exact arithmetic where a word may not do: products of two words and what is asked of them, and a difference that stops at 0.
+#![tactic(auto)]
 ghost use Rattle.std.specs.Prelude.{◌≡◌, ◌+◌, ◌-◌, ◌*◌, ◌/◌, ◌%◌, ◌^◌, min, leb};
 ghost use Rattle.wide.specs.Wide.{value};
 
 // The number `hi` times 2^64 plus `lo`.
-#[derive(Drop)]
+#[derive(Clone, Copy)]
 pub struct Wide {
     pub hi: u64,
     pub lo: u64,

@@ -1,3 +1,0 @@
-int sclk_run(void);
-
-int main(void) { return sclk_run(); }
