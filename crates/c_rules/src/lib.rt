@@ -1,1 +1,2 @@
 // What the C calls take and give: definitions alone.
+#![tactic(auto)]

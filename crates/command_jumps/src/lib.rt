@@ -1,4 +1,5 @@
 // Where segments meet: the time that a row's line reaches where the next row begins, and how many gaps and steps back there are.
+#![tactic(auto)]
 ghost use Rattle.std.specs.Prelude.{◌≡◌, cond, ◌<◌, length};
 ghost use Rattle.rules.specs.Segments.{segments, steps_back_at};
 ghost use Rattle.command_rules.specs.Describe.{count_below, reached as reachedBy, is_gap};

@@ -1,4 +1,5 @@
 // The types that the definitions of the operator's command name.
+#![tactic(auto)]
 
 // What is asked of each line of input.
 #[derive(Clone, Copy)]

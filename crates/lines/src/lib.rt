@@ -1,6 +1,7 @@
 // The lines of an input that comes in chunks. A line buffer that the program lends keeps the first bytes of the line under way:
 // with room for one byte more than the longest line has, what is kept tells whether a line is too long.
 #![tactic(auto)]
+
 ghost use Rattle.std.specs.Prelude.{◌≡◌, ◌+◌, ◌-◌, ◌≤◌, min, length, drop};
 ghost use Rattle.std.proofs.Math.Seq.{paste};
 ghost use Rattle.lines.specs.Steps.{line_in, next_line, line_after, Onward};

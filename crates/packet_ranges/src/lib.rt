@@ -1,4 +1,5 @@
 // The ranges of what a packet is written from.
+#![tactic(auto)]
 ghost use Rattle.std.specs.Prelude.{◌≡◌, ◌^◌, ◌≤◌};
 ghost use Rattle.packet_rules.specs.Write.{writable};
 

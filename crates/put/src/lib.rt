@@ -1,4 +1,5 @@
 // Bytes put into a buffer behind one another: each function puts its bytes at `at` as far as there is room, and answers the place after them.
+#![tactic(auto)]
 ghost use Rattle.put.specs.Places.{Put};
 
 use rules::{Place, Refusal};

@@ -41,10 +41,12 @@ pub struct Reads {
 
 // Reads the input to its end and writes the answers of its lines. Every line that has ended is answered before more input
 // is asked for. Where no read and no write fails, and the reads can be counted, the answers of the whole input are written.
+// A read or a write that fails ends it with its error; what was written by then is not said.
 pub fn run<R: Read, W: Write>(input: &mut R, output: &mut W, line: &mut [u8]) -> io::Result<Reads>
     requires { line.old ≡ replicate line_buffer 0 }
     ensures ended { IfOk result (λ reads. ToTheEnd reads) }
     ensures whole_output { IfOk result (λ reads. reads.made < 2 ^ 64 - 1 → IfSome (R.remaining input.old) (λ bytes. Appends (W.contents output.old) (W.contents output.new) (stamp_output bytes))) }
+    ensures line_len { length line.new ≡ length line.old }
 {
     let mut chunk = [0u8; 65_536];
     let mut out = [0u8; 4_096];

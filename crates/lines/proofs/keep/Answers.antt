@@ -1,4 +1,3 @@
-use Prim.Native.Nat.{◌-◌}
 use borrow.Author.Rules.{rules}
 use lib.Seq.{paste-zero}
 use Rattle.lines.proofs.Keeping.{copy_next, copy_done}

@@ -1,4 +1,3 @@
-use Prim.Native.Nat.{◌-◌}
 use borrow.Author.Rules.{rules}
 use Rattle.lines.proofs.Keeping.{found_here, found_later, found_last}
 use Rattle.lines.proofs.line_end.Goals as goal

@@ -1,0 +1,26 @@
+use Rattle.kernel_rules.specs.Tokens.{with_comma}
+use Rattle.kernel_tokens.proofs.with_comma.Goals as goal
+
+pub returns-in-Opened : goal.returns-in-Opened
+unfolding with_comma
+returns-in-Opened c = cc
+
+pub returns-in-Numbers : goal.returns-in-Numbers
+unfolding with_comma
+returns-in-Numbers c = cc
+
+pub returns-in-Strings : goal.returns-in-Strings
+unfolding with_comma
+returns-in-Strings c = cc
+
+pub returns-in-Comment : goal.returns-in-Comment
+unfolding with_comma
+returns-in-Comment c = cc
+
+pub returns-in-Data : goal.returns-in-Data
+unfolding with_comma
+returns-in-Data c = cc
+
+pub returns-in-Forbidden : goal.returns-in-Forbidden
+unfolding with_comma
+returns-in-Forbidden c = cc

@@ -1,0 +1,11 @@
+use Prim.Native.Nat.{◌-◌}
+use lib.ListN.{length}
+use Rattle.kernel_walk.specs.Places.{values_here}
+use Rattle.kernel_values.proofs.Filling.{RowFill}
+use Rattle.kernel_values.proofs.fill_rows.Given as goal
+
+abbrev pub invariant-loop-v : goal.invariant-loop-v
+invariant-loop-v l = RowFill l.text (values_here l.text l.at) l.initial.counts l.initial.times l.initial.rates l.v l.count l.good l.exact l.counts l.times l.rates
+
+abbrev pub decreases-loop-v : goal.decreases-loop-v
+decreases-loop-v l = length l.text - l.count

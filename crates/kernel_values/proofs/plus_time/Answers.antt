@@ -1,0 +1,9 @@
+use Rattle.kernel_values.proofs.Numbers.{plus_fits, plus_beyond}
+use borrow.Author.Rules.{rules}
+use Rattle.kernel_values.proofs.plus_time.Goals as goal
+
+pub returns-then-v-lt-LIMIT : goal.returns-then-v-lt-LIMIT
+returns-then-v-lt-LIMIT c = search (plus_fits, rules)
+
+pub returns : goal.returns
+returns c = search (plus_beyond, rules)

@@ -1,0 +1,15 @@
+use Rattle.kernel_values.proofs.Numbers.{time_malformed, time_inexact, time_told}
+use borrow.Author.Rules.{rules}
+use Rattle.kernel_values.proofs.time_of.Goals as goal
+
+pub returns-in-Malformed : goal.returns-in-Malformed
+returns-in-Malformed c = search (time_malformed, rules)
+
+pub returns-in-Inexact : goal.returns-in-Inexact
+returns-in-Inexact c = search (time_inexact, rules)
+
+pub returns-in-Plus : goal.returns-in-Plus
+returns-in-Plus c = search (time_told, rules)
+
+pub returns-in-Minus : goal.returns-in-Minus
+returns-in-Minus c = search (time_told, rules)
