@@ -109,7 +109,7 @@ def statuses(sclk):
     expect(sclk.run('time', k, '77', given=b'1/0:0:0:0\n\n1/0:0:0:0\n'), 1, one.output + missing + one.output, b'')
     same = b'same\t' + b'\t'.join(one.output.split(b'\t')[:2]) + b'\n'
     expect(sclk.run('compare', k, k, '77', given=b'1/0:0:0:0\n1/0:0:0:0'), 0, tables.output + same + same, b'')
-    # A reader that goes away ends the command as it ends others.
+    # A reader that goes away ends the command, by a write that fails.
     gone = sclk.run('-c', '"$0" time "$1" 77 | head -n 1 >/dev/null', sclk.program[0], k, given=GOOD * 200_000, program=['sh'])
     expect(gone, 0, b'', None)
 
