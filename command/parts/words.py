@@ -125,12 +125,17 @@ def test(sclk):
     with open(sclk.galileo, 'rb') as kernel:
         text = kernel.read()
     wanted = sclk.run('time', sclk.galileo, '77', given=GIVEN)
-    for name in ['time', '77', '-77', '-h', 'with blanks', b'\xff\xfe', '--hex', 'k' * 255]:
+    for name in ['time', '77', '-77', '-h', 'with blanks', '--hex', 'k' * 255]:
         sclk.file(name, text)
-        path = b'./' + name if isinstance(name, bytes) else './' + name
-        expect(sclk.run('time', path, '77', given=GIVEN), wanted.status, wanted.output, b'')
+        expect(sclk.run('time', './' + name, '77', given=GIVEN), wanted.status, wanted.output, b'')
         if name != '--hex':
             expect(sclk.run('time', name, '77', given=GIVEN), wanted.status, wanted.output, b'')
+
+    # A file whose name is not UTF-8 cannot be read, whether it is there or not.
+    sclk.file(b'\xff\xfe', text)
+    for name in (b'\xff\xfe', b'./\xff\xfe', b'\xc3'):
+        expect(sclk.run('time', name, '77', given=GIVEN), 4, b'', b'sclk: ' + name + b': invalid filename\n')
+        sclk.beside('time', name, '77', given=GIVEN, errors=True)
 
     # As users start it: from another folder, and by a link. Words and input reach the program as they are.
     link = os.path.join(sclk.folder, 'linked')

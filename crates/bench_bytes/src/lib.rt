@@ -20,7 +20,7 @@ pub fn put_offsets<R: Env>(rt: &R, list: &mut [u8]) {
 }
 
 // The numbers of three fields. They begin at byte 0, which the compiler cannot know, so that they are as unknown as the layout.
-pub fn fields<R: Env>(rt: &R, list: &[u8]) -> &[u8] {
+pub fn fields<'a, R: Env>(rt: &R, list: &'a [u8]) -> &'a [u8] {
     if list.len() < FIELDS {
         return list;
     }

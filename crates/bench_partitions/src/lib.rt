@@ -40,8 +40,8 @@ pub fn prepare<R: Env>(rt: &R, starts: &mut [u64], ends: &mut [u64], slots: &mut
     requires le_rows { (1 ≤ rows) × (rows < 10000) }
     requires rows_in_bounds { (rows ≤ length starts.old) × (rows ≤ length ends.old) }
 {
-    fill(rt, starts, ends, rows, ticks(rows as u64));
-    slots::fill(slots, &starts[0..rows], &ends[0..rows], total(rows as u64));
+    fill(starts, ends, rows, ticks(rows as u64));
+    slots::fill(rt, slots, &starts[0..rows], &ends[0..rows], total(rows as u64));
 }
 
 // The ticks of each of so many partitions.
@@ -61,7 +61,7 @@ pub fn total(rows: u64) -> u64
 }
 
 // The first `rows` of the lists become partitions of so many ticks; one tick is left out before the next.
-fn fill<R: Env>(rt: &R, starts: &mut [u64], ends: &mut [u64], rows: usize, ticks: u64)
+fn fill(starts: &mut [u64], ends: &mut [u64], rows: usize, ticks: u64)
     requires rows_bound { (rows < 10000) × (ticks < 4294967295) }
     requires rows_in_bounds { (rows ≤ length starts.old) × (rows ≤ length ends.old) }
 {

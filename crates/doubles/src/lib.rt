@@ -1,5 +1,6 @@
 // The double form: one segment as three doubles, for tools that work in doubles.
 // Each operation of a conversion is an f64 operation, in the order that document 01 writes it.
+#![tactic(auto)]
 ghost use Rattle.std.specs.Prelude.{◌≡◌, ◌≤◌};
 ghost use Rattle.rules.specs.Limits.{largest_mSF};
 ghost use Rattle.rules.specs.Answer.{double_answer};

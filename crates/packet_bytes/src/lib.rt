@@ -1,4 +1,5 @@
 // The octets of a packet, written from right to left: each function is given where its octets end and answers where they start.
+#![tactic(auto)]
 ghost use Rattle.std.specs.Prelude.{◌≡◌, [], ◌∷◌, ◌++◌, ◌+◌, ◌-◌, ◌/◌, ◌^◌, length};
 ghost use Rattle.decimal.specs.Writing.{Room, Written};
 ghost use Rattle.packet_rules.specs.Octets.{octets as lowOctets};

@@ -1,4 +1,5 @@
 // Reading a packet: its header's fields, where its data stand, and the count of its time. Nothing in it divides.
+#![tactic(auto)]
 ghost use Rattle.std.specs.Prelude.{◌≡◌, ◌∷◌, [], ◌+◌, ◌^◌, ◌≤◌, ◌<◌, min, eqb, length};
 ghost use Rattle.base.specs.Scans.{all_of};
 ghost use Rattle.rules.specs.Limits.{largest_p, largest_mSF};

@@ -1,5 +1,6 @@
 // The calls for a host program in C (include/stitchwold.h), on numbers and byte slices only. Each answers as the inner call on the
 // same numbers: a count or a length as itself, a refusal as its number's negative.
+#![tactic(auto)]
 ghost use Rattle.std.specs.Prelude.{◌≡◌, length};
 ghost use Rattle.rules.specs.Text.{read_text};
 ghost use Rattle.rules.specs.Stamp.{read_stamp};

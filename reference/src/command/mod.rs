@@ -9,8 +9,6 @@ mod usage;
 
 use std::fs::File;
 use std::io::Read;
-use std::os::unix::ffi::OsStrExt;
-use std::path::Path;
 
 use crate::{print_stamp, Refusal};
 use kernel::Kernel;
@@ -112,7 +110,8 @@ fn stamp(kernel: &Kernel, e: u64) -> Result<String, Refusal> {
 
 /// A file's bytes, of a large one no more than show that it is too large.
 pub fn read_file(path: &[u8]) -> Contents {
-    let path = Path::new(std::ffi::OsStr::from_bytes(path));
+    // A name that is not UTF-8 is a file that cannot be read.
+    let path = std::str::from_utf8(path).map_err(|_| "invalid filename".to_string())?;
     let file = File::open(path).map_err(|error| error.to_string())?;
     let mut bytes = vec![];
     file.take(LARGEST_FILE as u64 + 1).read_to_end(&mut bytes).map_err(|error| error.to_string())?;

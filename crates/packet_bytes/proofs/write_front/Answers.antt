@@ -1,0 +1,12 @@
+use borrow.Author.Rules.{rules}
+use Rattle.packet_bytes.proofs.Parts.{second_room, first_room, both_written}
+use Rattle.packet_bytes.proofs.write_front.Goals as goal
+
+pub write_length-middle-requires : goal.write_length-middle-requires
+write_length-middle-requires c = search (second_room, rules)
+
+pub write_words-requires : goal.write_words-requires
+write_words-requires c = search (first_room, rules)
+
+pub returns : goal.returns
+returns c = search (both_written, rules)

@@ -1,0 +1,18 @@
+use borrow.Author.Rules.{rules}
+use Rattle.packet_read.proofs.Forms.{under_seven, another_length, bad_form, time_past, time_within}
+use Rattle.packet_read.proofs.check_packet.Goals as goal
+
+pub returns-then-length-lt-TIME_START : goal.returns-then-length-lt-TIME_START
+returns-then-length-lt-TIME_START c = search (under_seven, rules)
+
+pub returns-then-length-word_at : goal.returns-then-length-word_at
+returns-then-length-word_at c = search (another_length, rules)
+
+pub returns-then-not-form_ok : goal.returns-then-not-form_ok
+returns-then-not-form_ok c = search (bad_form, rules)
+
+pub returns-then-length-time_end : goal.returns-then-length-time_end
+returns-then-length-time_end c = search (time_past, rules)
+
+pub returns : goal.returns
+returns c = search (time_within, rules)

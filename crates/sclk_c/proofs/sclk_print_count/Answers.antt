@@ -1,0 +1,12 @@
+use borrow.Author.Rules.{rules}
+use Rattle.sclk_c.proofs.Fitting.{count_print_fits, count_print_back, count_print_left}
+use Rattle.sclk_c.proofs.sclk_print_count.Goals as goal
+
+pub length_given-requires : goal.length_given-requires
+length_given-requires c = search (count_print_fits, rules)
+
+pub returns-clause-value : goal.returns-clause-value
+returns-clause-value c = search (count_print_back, rules)
+
+pub returns-clause-buffer_after : goal.returns-clause-buffer_after
+returns-clause-buffer_after c = search (count_print_left, rules)
