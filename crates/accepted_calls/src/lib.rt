@@ -1,5 +1,6 @@
 // The calls under tables that were accepted before: each asks for them and answers as the public call does, without a check.
 #![tactic(auto)]
+
 ghost use Rattle.std.specs.Prelude.{◌≡◌, length};
 ghost use Rattle.rules.specs.Answer.{stamp_answer, count_answer};
 ghost use Rattle.rules.specs.Partitions.{partitions};

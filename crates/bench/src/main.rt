@@ -1,6 +1,7 @@
 // The benchmark's questions, asked of the proved calls. Without an argument it asks few of each and prints their checksums; with
 // one it asks many and prints nanoseconds a call behind each checksum. The reference has the same questions.
 #![tactic(auto)]
+
 use bench_report::{is_timed, often};
 use std::io;
 use std::rt::{CpuClock, Env};

@@ -1,5 +1,6 @@
 // Lists of numbers in bytes, the layout's two, and what a C call returns.
 #![tactic(auto)]
+
 use bench_report::{layout, unknown_zero};
 use std::rt::Env;
 

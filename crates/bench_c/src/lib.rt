@@ -1,5 +1,6 @@
 // The C calls beside the inner calls: the same questions under the same tables, in bytes.
 #![tactic(auto)]
+
 ghost use Rattle.std.specs.Prelude.{◌≤◌, ◌<◌, length};
 
 use bench_bytes::{FIELDS, fields, first, put_moduli, put_numbers, put_offsets, returned};
@@ -22,7 +23,12 @@ pub fn bench<R: Env + CpuClock + Print>(rt: &R, timed: bool) -> io::Result<()> {
     bench_all(rt, timed, &moduli, &offsets)
 }
 
-fn bench_all<R: Env + CpuClock + Print>(rt: &R, timed: bool, moduli: &[u8], offsets: &[u8]) -> io::Result<()> {
+fn bench_all<R: Env + CpuClock + Print>(
+    rt: &R,
+    timed: bool,
+    moduli: &[u8],
+    offsets: &[u8],
+) -> io::Result<()> {
     let mut starts = [0u64; MOST_ROWS];
     let mut ends = [0u64; MOST_ROWS];
     let mut slots = [0u8; slots::ALL];
@@ -66,7 +72,14 @@ fn bench_all<R: Env + CpuClock + Print>(rt: &R, timed: bool, moduli: &[u8], offs
     )
 }
 
-fn bench_texts<R: Env + CpuClock + Print>(rt: &R, timed: bool, moduli: &[u8], offsets: &[u8], slots: &[u8], asked: u64) -> io::Result<()> {
+fn bench_texts<R: Env + CpuClock + Print>(
+    rt: &R,
+    timed: bool,
+    moduli: &[u8],
+    offsets: &[u8],
+    slots: &[u8],
+    asked: u64,
+) -> io::Result<()> {
     let from = clock(rt)?;
     let sum = bench_partitions::checksum(rt, Question::Text, &[], &[], slots, LAST, asked);
     line(rt, b"read-text", asked, sum, timed, from)?;

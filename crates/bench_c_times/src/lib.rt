@@ -1,5 +1,6 @@
 // Count to time and time to count by the C calls, under one partition.
 #![tactic(auto)]
+
 ghost use Rattle.std.specs.Prelude.{◌<◌};
 
 use bench_bytes::{
@@ -13,7 +14,14 @@ use std::rt::{CpuClock, Env};
 const MOST_BYTES: usize = 80_000;
 
 // The questions that `bench_rows` asks under the same segments.
-pub fn bench<R: Env + CpuClock + Print>(rt: &R, timed: bool, counts: &[u64], times: &[i64], rates: &[u64], asked: u64) -> io::Result<()> {
+pub fn bench<R: Env + CpuClock + Print>(
+    rt: &R,
+    timed: bool,
+    counts: &[u64],
+    times: &[i64],
+    rates: &[u64],
+    asked: u64,
+) -> io::Result<()> {
     let mut count_list = [0u8; MOST_BYTES];
     let mut time_list = [0u8; MOST_BYTES];
     let mut rate_list = [0u8; MOST_BYTES];
@@ -41,7 +49,16 @@ fn last_of(counts: &[u64]) -> u64 {
     counts[rows - 1]
 }
 
-fn ask<R: Env + CpuClock + Print>(rt: &R, timed: bool, counts: &[u8], times: &[u8], rates: &[u8], rows: u64, last: u64, asked: u64) -> io::Result<()> {
+fn ask<R: Env + CpuClock + Print>(
+    rt: &R,
+    timed: bool,
+    counts: &[u8],
+    times: &[u8],
+    rates: &[u8],
+    rows: u64,
+    last: u64,
+    asked: u64,
+) -> io::Result<()> {
     let mut moduli = [0u8; FIELDS];
     let mut offsets = [0u8; FIELDS];
     let mut starts = [0u8; 8];
@@ -52,8 +69,7 @@ fn ask<R: Env + CpuClock + Print>(rt: &R, timed: bool, counts: &[u8], times: &[u
     put_numbers(&mut ends, &[LAST]);
     let from = clock(rt)?;
     let sum = times_of(
-        rt,
-        &moduli, &offsets, &starts, &ends, counts, times, rates, asked,
+        rt, &moduli, &offsets, &starts, &ends, counts, times, rates, asked,
     );
     table_line(rt, b"c-time-of", rows, asked, sum, timed, from)?;
     let from = clock(rt)?;

@@ -1,6 +1,7 @@
 // The C calls' questions, each asked of the inner call too. Without an argument it asks few of each and prints their checksums;
 // with one it asks many and prints nanoseconds a call behind each checksum. The reference has the same questions.
 #![tactic(auto)]
+
 ghost use Rattle.std.specs.Prelude.{◌≤◌, ◌<◌, length};
 
 use bench_report::{is_timed, often};
@@ -66,8 +67,7 @@ fn bench_times<R: Env + CpuClock + Print>(
     requires rows_in_bounds { (rows ≤ length counts.old) × (rows ≤ length times.old) × (rows ≤ length rates.old) }
 {
     bench_rows::bench(
-        rt,
-        timed, counts, times, rates, rows, asked, time_name, count_name,
+        rt, timed, counts, times, rates, rows, asked, time_name, count_name,
     )?;
     bench_c_times::bench(
         rt,

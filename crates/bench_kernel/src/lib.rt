@@ -1,5 +1,6 @@
 // Reading the kernel text of a table: a small one, the largest that the rules accept, and one segment larger.
 #![tactic(auto)]
+
 ghost use Rattle.std.specs.Prelude.{◌≡◌, ◌≤◌, length};
 
 use bench_report::{clock, line, mixed, next, often};
@@ -32,8 +33,24 @@ pub fn bench<R: Env + CpuClock + Print>(rt: &R, timed: bool) -> io::Result<()> {
     let asked = often(timed, 20_000, 20);
     bench_table(rt, timed, b"read-kernel-100", 100, 99, asked, &mut text)?;
     let asked = often(timed, 200, 2);
-    bench_table(rt, timed, b"read-kernel-10000", 10_000, 9_999, asked, &mut text)?;
-    bench_table(rt, timed, b"read-kernel-10001", 10_001, 9_999, asked, &mut text)
+    bench_table(
+        rt,
+        timed,
+        b"read-kernel-10000",
+        10_000,
+        9_999,
+        asked,
+        &mut text,
+    )?;
+    bench_table(
+        rt,
+        timed,
+        b"read-kernel-10001",
+        10_001,
+        9_999,
+        asked,
+        &mut text,
+    )
 }
 
 fn text_room() -> [u8; MOST_TEXT]

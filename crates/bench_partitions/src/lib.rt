@@ -1,5 +1,6 @@
 // Clock text and counts; stamps and messages under as many partitions as the name says.
 #![tactic(auto)]
+
 ghost use Rattle.std.specs.Prelude.{◌*◌, ◌≤◌, ◌<◌, length};
 
 use bench_report::{LAST, clock, layout, mixed, next, scaled, table_line};
@@ -20,7 +21,15 @@ pub enum Question {
 }
 
 // Stamps and messages under these partitions.
-pub fn bench<R: Env + CpuClock + Print>(rt: &R, timed: bool, starts: &[u64], ends: &[u64], slots: &[u8], rows: u64, asked: u64) -> io::Result<()>
+pub fn bench<R: Env + CpuClock + Print>(
+    rt: &R,
+    timed: bool,
+    starts: &[u64],
+    ends: &[u64],
+    slots: &[u8],
+    rows: u64,
+    asked: u64,
+) -> io::Result<()>
     requires { (1 ≤ rows) × (rows < 10000) }
 {
     let total = total(rows);
@@ -41,7 +50,13 @@ pub fn prepare<R: Env>(rt: &R, starts: &mut [u64], ends: &mut [u64], slots: &mut
     requires rows_in_bounds { (rows ≤ length starts.old) × (rows ≤ length ends.old) }
 {
     fill(starts, ends, rows, ticks(rows as u64));
-    slots::fill(rt, slots, &starts[0..rows], &ends[0..rows], total(rows as u64));
+    slots::fill(
+        rt,
+        slots,
+        &starts[0..rows],
+        &ends[0..rows],
+        total(rows as u64),
+    );
 }
 
 // The ticks of each of so many partitions.
@@ -120,7 +135,12 @@ fn answer<R: Env>(
 {
     match question {
         Question::Text => read(text::read_text(layout(rt), slots::text(slots, at))),
-        Question::Stamp => read(text::read_stamp(layout(rt), starts, ends, slots::stamp(slots, at))),
+        Question::Stamp => read(text::read_stamp(
+            layout(rt),
+            starts,
+            ends,
+            slots::stamp(slots, at),
+        )),
         Question::Message => read(message::read_message(
             layout(rt),
             starts,

@@ -1,10 +1,11 @@
 // Whether a newer table succeeds an older one, and where their horizon is. The newer table has as many rows as there may be.
 #![tactic(auto)]
+
 use bench_partitions::prepare;
 use bench_report::{LAST, clock, layout, line, mixed, often};
-use succession_rules::{Failure, HorizonAnswer, SuccessionAnswer};
 use std::io;
 use std::rt::{CpuClock, Env};
+use succession_rules::{Failure, HorizonAnswer, SuccessionAnswer};
 
 const PARTITIONS: usize = 9_999;
 

@@ -1,5 +1,6 @@
 // A stamp, and a message, to its count and time under one partition.
 #![tactic(auto)]
+
 ghost use Rattle.std.specs.Prelude.{◌≤◌, ◌<◌};
 
 use bench_report::{LAST, clock, layout, line, mixed, next};
@@ -71,7 +72,13 @@ fn mark<R: Env>(
     }
 }
 
-fn time_of<R: Env>(rt: &R, bytes: &[u8], counts: &[u64], times: &[i64], rates: &[u64]) -> StampAnswer {
+fn time_of<R: Env>(
+    rt: &R,
+    bytes: &[u8],
+    counts: &[u64],
+    times: &[i64],
+    rates: &[u64],
+) -> StampAnswer {
     if bytes.len() == TEXT {
         return time_of_stamp(layout(rt), &[0], &[LAST], counts, times, rates, bytes);
     }

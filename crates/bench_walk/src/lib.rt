@@ -1,5 +1,6 @@
 // Walking a dump of packets that is cut at random. Of each packet its length and three of its bytes are looked at.
 #![tactic(auto)]
+
 ghost use Rattle.std.specs.Prelude.{◌≡◌, ◌+◌, ◌-◌, ◌<◌, ◌≤◌, length};
 
 use bench_report::{clock, fill_bytes, line, mixed, next, often};
@@ -48,7 +49,15 @@ fn tail_room() -> [u8; TAIL_ROOM]
 }
 
 // Packets of `least` bytes; or, where they are mixed, most of up to 4,095 more, every 64th the longest there is.
-fn bench_dump<R: Env + CpuClock + Print>(rt: &R, timed: bool, name: &[u8], least: usize, mixed: bool, asked: u64, dump: &mut [u8]) -> io::Result<()>
+fn bench_dump<R: Env + CpuClock + Print>(
+    rt: &R,
+    timed: bool,
+    name: &[u8],
+    least: usize,
+    mixed: bool,
+    asked: u64,
+    dump: &mut [u8],
+) -> io::Result<()>
     requires { (7 ≤ least) × (least ≤ 1024) }
 {
     fill_bytes(dump);

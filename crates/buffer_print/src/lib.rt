@@ -1,5 +1,6 @@
 // Prints at the front of the buffer, where they fit: lengths first, then bytes, so that a refusal leaves the buffer.
 #![tactic(auto)]
+
 ghost use Rattle.std.specs.Prelude.{◌+◌, ◌<◌, ◌≡◌, [], ◌∷◌, ◌++◌, length};
 ghost use Rattle.base.specs.Scans.{product};
 ghost use Rattle.rules.specs.Limits.{most_partitions};

@@ -1,5 +1,6 @@
 // Numbers where they lie in bytes: eight for each, low byte first. Nothing is copied.
 #![tactic(auto)]
+
 ghost use Rattle.std.specs.Prelude.{◌≡◌, ◌+◌, ◌*◌, ◌%◌, ◌<◌, ◌≤◌, ◌++◌, length, take, drop, pos, slice_index, slice_index_or, slice_set};
 ghost use Rattle.c_rules.specs.Numbers.{little, numbers, times, signed_of, unsigned_of, time_bytes};
 

@@ -1,6 +1,7 @@
 // Stamps and messages under partitions that lie in bytes: reading and printing. Text is parsed, and a stamp printed, by the
 // functions that lists of numbers use; only the loops that fetch a partition are here.
 #![tactic(auto)]
+
 ghost use Rattle.std.specs.Prelude.{◌≡◌, length};
 ghost use Rattle.rules.specs.Answer.{and_then, read_answer, print_answer};
 ghost use Rattle.rules.specs.Stamp.{encode, read_stamp};

@@ -13,7 +13,7 @@ use mir.Facts.{to_z-of_z}
 use native.Mathlib.Omega.{arith}
 use borrow.Author.Tests.{le-leb}
 use Rattle.base.specs.Scans.{all, product}
-use Rattle.rules.specs.Limits.{most_fields, last_delimiter, largest_offset, largest_mSF}
+use Rattle.rules.specs.Limits.{most_fields, last_delimiter, largest_offset, largest_msf}
 use Rattle.rules.specs.Answer.{Answer, refuse}
 use Rattle.layouts.specs.declared.Measured.{Measured}
 use Rattle.layouts.specs.Measure.{measure_of, head_ok, measured_by}
@@ -81,7 +81,7 @@ module _ (n : ℕ) (moduli offsets : List ℕ) (k : ℕ) (ke : k ≡ fields_give
         pub offsets_out : not c ≡ true → refuse 1 ≡ measure_of (layout_from n d moduli offsets)
         offsets_out g = large_offset (layout_from n d moduli offsets) (take (fields_given n moduli offsets) (numbers offsets)) (offsets_are n moduli offsets d few) offsets_is g
 
-        pub measured_is : not c ≡ false → (first m : ℕ) → first ≡ get_or (numbers moduli) 0 0 → m ≡ min (product (drop 1 (take k (numbers moduli)))) (largest_mSF + 1) → (a : Answer Measured) → a ≡ measured_by first m → a ≡ measure_of (layout_from n d moduli offsets)
+        pub measured_is : not c ≡ false → (first m : ℕ) → first ≡ get_or (numbers moduli) 0 0 → m ≡ min (product (drop 1 (take k (numbers moduli)))) (largest_msf + 1) → (a : Answer Measured) → a ≡ measured_by first m → a ≡ measure_of (layout_from n d moduli offsets)
         measured_is g first m fe me a q =
             moduli_measured (layout_from n d moduli offsets) (take (fields_given n moduli offsets) (numbers moduli)) (take (fields_given n moduli offsets) (numbers offsets))
             (moduli_are n moduli offsets d few) (offsets_are n moduli offsets d few) head_is h offsets_is g first m

@@ -1,6 +1,7 @@
 // Tables that lie in bytes: the layout they make, and whether they are accepted. What a row must meet is told by the functions
 // that lists of numbers are checked by; only the loops that fetch a row are here.
 #![tactic(auto)]
+
 ghost use Rattle.std.specs.Prelude.{◌≡◌, ◌≤◌};
 ghost use Rattle.rules.specs.Answer.{and_then};
 ghost use Rattle.rules.specs.Segments.{row_of};

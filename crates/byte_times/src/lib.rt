@@ -1,6 +1,7 @@
 // Count to time and time to count under tables that lie in bytes. The layout is measured and not made; a row's line is told by the functions that lists of numbers
 // use; only the loops that fetch a row are here.
 #![tactic(auto)]
+
 ghost use Rattle.std.specs.Prelude.{◌≡◌};
 ghost use Rattle.rules.specs.Answer.{time_answer, count_answer};
 ghost use Rattle.rules.specs.Facts.{SegmentsFacts};

@@ -1,5 +1,6 @@
 // What comes back to the host: a count or a length as itself, a refusal as its number's negative, a time in a lent buffer.
 #![tactic(auto)]
+
 ghost use Rattle.std.specs.Prelude.{◌≡◌, ◌^◌, ◌≤◌, ◌<◌, pos, neg_ℤ, length};
 ghost use Rattle.rules.specs.Answer.{read_answer, print_answer, time_answer, count_answer};
 ghost use Rattle.rules.specs.Print.{fitting, buffer_after};

@@ -1,5 +1,6 @@
 // The lines of answers under one table, put into a buffer at `at`.
 #![tactic(auto)]
+
 ghost use Rattle.std.specs.Prelude.{◌≡◌, [], ◌∷◌, ◌++◌, ◌+◌, ◌≤◌, length, take};
 ghost use Rattle.rules.specs.Answer.{answer, refused, stamp_answer, count_answer};
 ghost use Rattle.rules.specs.Partitions.{partitions};

@@ -1,5 +1,6 @@
 // The lines of a comparison, put into a buffer at `at`: what the older table answers of a stamp, and the newer.
 #![tactic(auto)]
+
 ghost use Rattle.std.specs.Prelude.{◌≡◌, true, false, ◌&&◌, ◌+◌, ◌≤◌, eqb, length};
 ghost use Rattle.rules.specs.Answer.{answer, refused, stamp_answer};
 ghost use Rattle.versions.specs.Equal.{eq_z};

@@ -1,5 +1,6 @@
 // The first and the last lines of a table's description, put into a buffer. Each function answers the place after what it put.
 #![tactic(auto)]
+
 ghost use Rattle.std.specs.Prelude.{[], ◌∷◌, ◌++◌, ◌+◌, ◌*◌, ◌≤◌, length};
 ghost use Rattle.rules.specs.Facts.{LayoutFacts};
 ghost use Rattle.rules.specs.Limits.{most_fields, last_delimiter};

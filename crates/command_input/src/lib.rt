@@ -1,5 +1,6 @@
 // A line of the operator's input: the text that it is without a byte 13 at its end, and the message that the text is in hex.
 #![tactic(auto)]
+
 ghost use Rattle.std.specs.Prelude.{◌≡◌, true, ◌+◌, ◌*◌, ◌≤◌, length, take};
 ghost use Rattle.command_rules.specs.Input.{without_return, is_hex, worth, bytes_of, read_hex};
 ghost use Rattle.command_input.specs.Runs.{run_length};

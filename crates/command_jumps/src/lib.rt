@@ -1,8 +1,9 @@
 // Where segments meet: the time that a row's line reaches where the next row begins, and how many gaps and steps back there are.
 #![tactic(auto)]
+
 ghost use Rattle.std.specs.Prelude.{◌≡◌, cond, ◌<◌, length};
 ghost use Rattle.rules.specs.Segments.{segments, steps_back_at};
-ghost use Rattle.command_rules.specs.Describe.{count_below, reached as reachedBy, is_gap};
+ghost use Rattle.command_rules.specs.Describe.{count_below, reached as reached_by, is_gap};
 ghost use Rattle.command_jumps.specs.Reached.{NextReached, AllReached};
 
 use segment_line::time_on;
@@ -11,7 +12,7 @@ use segments::row::row_at;
 // The time that the line of row `i`, rounded up, reaches where the next row begins.
 pub fn reached(unit: u64, counts: &[u64], times: &[i64], rates: &[u64], i: usize) -> i64
     requires { NextReached unit (segments counts.now times.now rates.now) i }
-    ensures { result ≡ reachedBy unit (segments counts.now times.now rates.now) i }
+    ensures { result ≡ reached_by unit (segments counts.now times.now rates.now) i }
 {
     time_on(unit, row_at(counts, times, rates, i), counts[i + 1])
 }

@@ -1,5 +1,6 @@
 // A line of input to its line of output, under tables that are accepted.
 #![tactic(auto)]
+
 ghost use Rattle.std.specs.Prelude.{◌≡◌, ◌+◌, ◌≤◌, length, take};
 ghost use Rattle.rules.specs.Answer.{stamp_answer};
 ghost use Rattle.rules.specs.Partitions.{partitions};

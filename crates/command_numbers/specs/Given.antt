@@ -21,7 +21,7 @@ number_cap = 5_000_000_000_000_000_000
 unfoldable pub near_count : ℕ → ℕ
 near_count n = min n number_cap
 
--- from -numberCap to number_cap
+-- from -number_cap to number_cap
 unfoldable pub near_time : ℤ → ℤ
 near_time (pos n) = pos (min n number_cap)
 near_time (negsuc n) = negsuc (min n (number_cap - 1))

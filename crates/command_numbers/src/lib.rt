@@ -1,6 +1,7 @@
 // A text of the operator's input as a number: an encoded count, or a time in nanoseconds or in decimal seconds.
 // Numbers are kept up to a cap that is above every total and every time.
 #![tactic(auto)]
+
 ghost use Rattle.std.specs.Prelude.{◌≡◌, ◌+◌, ◌-◌, ◌*◌, ◌≤◌, min, eqb, length, get_or, drop};
 ghost use Rattle.base.specs.Scans.{all};
 ghost use Rattle.rules.specs.Limits.{longest_text};

@@ -1,5 +1,6 @@
 // The partitions of a table's description, a line each, put into a buffer as far as it goes.
 #![tactic(auto)]
+
 ghost use Rattle.std.specs.Prelude.{◌+◌, ◌≤◌, length};
 ghost use Rattle.rules.specs.Partitions.{partitions};
 ghost use Rattle.encode.specs.Listed.{Listed};

@@ -1,5 +1,6 @@
 // The segments of a table's description, a line each with the gap or the step back behind it, put into a buffer as far as it goes.
 #![tactic(auto)]
+
 ghost use Rattle.std.specs.Prelude.{◌++◌, ◌+◌, ◌≤◌, ◌<◌, length};
 ghost use Rattle.rules.specs.Segments.{segments};
 ghost use Rattle.decimal.specs.Writing.{Written};

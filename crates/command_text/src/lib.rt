@@ -1,5 +1,6 @@
 // Times, rates and answers as fields of a line, put into a buffer at `at`, each with one byte after it. Each function answers the place after that byte.
 #![tactic(auto)]
+
 ghost use Rattle.std.specs.Prelude.{◌≡◌, [], ◌∷◌, ◌++◌, ◌+◌, ◌≤◌, ◌^◌, length};
 ghost use Rattle.decimal.specs.Writing.{Written};
 ghost use Rattle.command_rules.specs.Fields.{pointed, amount_text, time_text, difference_text, rate_text};

@@ -1,5 +1,6 @@
 // What one word of the command line is.
 #![tactic(auto)]
+
 ghost use Rattle.std.specs.Prelude.{◌≡◌};
 ghost use Rattle.command_words.specs.Words.{first_of, is_option, option_of, later_of};
 

@@ -1,5 +1,6 @@
 // Decimal digits: how many a number has, and writing them into a buffer from right to left.
 #![tactic(auto)]
+
 ghost use Rattle.std.specs.Prelude.{◌+◌, ◌<◌, ◌≤◌, ◌≡◌, [], ◌∷◌};
 ghost use Rattle.rules.specs.Print.{digit_count, last_digits};
 ghost use Rattle.decimal.specs.Writing.{Room, Written};

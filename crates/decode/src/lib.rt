@@ -1,5 +1,6 @@
 // The partition of an encoded count, and the clock's count in it.
 #![tactic(auto)]
+
 ghost use Rattle.std.specs.Prelude.{◌≡◌};
 ghost use Rattle.rules.specs.Partitions.{partitions};
 ghost use Rattle.rules.specs.Print.{partition_of, decoded_in};

@@ -9,7 +9,7 @@ use borrow.Author.Tests.{leb-true, le-leb, lt-leb, not-true, not-false}
 use native.Mathlib.Omega.{arith}
 use Rattle.base.specs.Scans.{all_of}
 use Rattle.base.proofs.Tests.{and_second}
-use Rattle.rules.specs.Limits.{largest_mSF, largest_count}
+use Rattle.rules.specs.Limits.{largest_msf, largest_count}
 use Rattle.rules.specs.Answer.{Answer, refuse, unless}
 use Rattle.rules.specs.declared.DoubleSegment.{DoubleSegment}
 use Rattle.rules.specs.Doubles.{double, tick_of, msf_ok, finite, segment_finite, rate_ok, finite_answer, time_after, count_after, forward_double, back_double}
@@ -38,7 +38,7 @@ pub before : {t : Bool} → t ≡ true → not t ≡ false
 before f = rw f
 
 -- MSF
-pub msf_in : (msf : ℕ) → 1 ≤ msf → leb msf largest_mSF ≡ msf_ok msf
+pub msf_in : (msf : ℕ) → 1 ≤ msf → leb msf largest_msf ≡ msf_ok msf
 unfolding msf_ok
 msf_in msf h = rw (le-leb 1 msf h)
 
@@ -46,9 +46,9 @@ pub msf_out : (msf : ℕ) → msf < 1 → leb 1 msf ≡ msf_ok msf
 unfolding msf_ok
 msf_out msf h = rw (lt-leb 1 msf h)
 
-pub msf_small : (msf : ℕ) → msf_ok msf ≡ true → msf ≤ largest_mSF
+pub msf_small : (msf : ℕ) → msf_ok msf ≡ true → msf ≤ largest_msf
 unfolding msf_ok
-msf_small msf h = leb-true msf largest_mSF (and_second (leb 1 msf) (leb msf largest_mSF) h)
+msf_small msf h = leb-true msf largest_msf (and_second (leb 1 msf) (leb msf largest_msf) h)
 
 -- a whole number within either limit is a double exactly
 pub exact : (n : ℕ) → n ≤ largest_count → T (in_float binary64 (pos n))

@@ -1,8 +1,9 @@
 // The double form: one segment as three doubles, for tools that work in doubles.
 // Each operation of a conversion is an f64 operation, in the order that document 01 writes it.
 #![tactic(auto)]
+
 ghost use Rattle.std.specs.Prelude.{◌≡◌, ◌≤◌};
-ghost use Rattle.rules.specs.Limits.{largest_mSF};
+ghost use Rattle.rules.specs.Limits.{largest_msf};
 ghost use Rattle.rules.specs.Answer.{double_answer};
 ghost use Rattle.rules.specs.Doubles.{tick_of, time_after, count_after, msf_ok, finite as is_finite, segment_finite, rate_ok, finite_answer, forward_double, back_double};
 
@@ -80,7 +81,7 @@ fn segment_finite(segment: DoubleSegment) -> bool
 
 // The rate is above 0, and over MSF it is not lost to rounding.
 fn rate_ok(segment: DoubleSegment, msf: u64) -> bool
-    requires { msf ≤ largest_mSF }
+    requires { msf ≤ largest_msf }
     ensures { result ≡ rate_ok segment msf }
 {
     0.0 < segment.rate && tick(segment, msf) != 0.0
@@ -88,7 +89,7 @@ fn rate_ok(segment: DoubleSegment, msf: u64) -> bool
 
 // The segment's line forward.
 fn time_after(segment: DoubleSegment, msf: u64, count: f64) -> f64
-    requires { msf ≤ largest_mSF }
+    requires { msf ≤ largest_msf }
     ensures { result ≡ time_after segment msf count }
 {
     segment.time + tick(segment, msf) * (count - segment.count)
@@ -96,7 +97,7 @@ fn time_after(segment: DoubleSegment, msf: u64, count: f64) -> f64
 
 // The segment's line back.
 fn count_after(segment: DoubleSegment, msf: u64, time: f64) -> f64
-    requires { msf ≤ largest_mSF }
+    requires { msf ≤ largest_msf }
     ensures { result ≡ count_after segment msf time }
 {
     segment.count + (time - segment.time) / tick(segment, msf)
@@ -104,7 +105,7 @@ fn count_after(segment: DoubleSegment, msf: u64, time: f64) -> f64
 
 // The seconds of one tick.
 fn tick(segment: DoubleSegment, msf: u64) -> f64
-    requires { msf ≤ largest_mSF }
+    requires { msf ≤ largest_msf }
     ensures { result ≡ tick_of segment msf }
 {
     segment.rate / msf as f64

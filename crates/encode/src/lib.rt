@@ -1,5 +1,6 @@
 // A clock's count, in a partition that is named or found, to its encoded count.
 #![tactic(auto)]
+
 ghost use Rattle.std.specs.Prelude.{◌≡◌, ◌&&◌, ◌≤◌, leb, length};
 ghost use Rattle.rules.specs.Partitions.{partitions, lengths_before};
 ghost use Rattle.rules.specs.Stamp.{encode_named, encode_first};

@@ -1,5 +1,6 @@
 // The fields of a count: how many bytes they print to, and writing them, from the last to the first.
 #![tactic(auto)]
+
 ghost use Rattle.std.specs.Prelude.{◌≤◌, ◌<◌, ◌≡◌, ◌∷◌, length, get_or};
 ghost use Rattle.base.specs.Scans.{product};
 ghost use Rattle.rules.specs.Print.{last_digits, field_width, fields_print};

@@ -1,5 +1,6 @@
 // Clock text in one pass over its bytes: digits and marks to fields, fields to the count.
 #![tactic(auto)]
+
 ghost use Rattle.std.specs.Prelude.{◌≡◌, not, ◌&&◌, cond, ◌+◌, ◌*◌, ◌≤◌, ◌<◌, min, length, drop};
 ghost use Rattle.base.specs.Scans.{product};
 ghost use Rattle.rules.specs.Text.{is_digit, is_mark};

@@ -1,5 +1,6 @@
 // The call: a kernel text to the tables of one clock, in lent lists.
 #![tactic(auto)]
+
 ghost use Rattle.std.specs.Prelude.{◌≡◌};
 ghost use Rattle.kernel_rules.specs.Tables.{lists_of};
 ghost use Rattle.kernel_rules.specs.Kernel.{kernel_answer, kernel_given, read_kernel, lists_after};

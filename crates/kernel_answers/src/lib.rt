@@ -1,5 +1,6 @@
 // A kernel text read by the one call, and its answer put as a line of a script's answers. Behind what the call answered stands each lent list, whole, whatever the answer.
 #![tactic(auto)]
+
 ghost use Rattle.put.specs.Places.{Put};
 
 use kernel_rules::{Kernel, KernelAnswer};

@@ -1,5 +1,6 @@
 // One line of a kernel text: the marker, the assignment or the part of a list that it is, and the stage that it leaves.
 #![tactic(auto)]
+
 ghost use Rattle.std.specs.Prelude.{◌≡◌, cond, ◌&&◌, ◌≤◌, length, drop};
 ghost use Rattle.base.specs.Scans.{all};
 ghost use Rattle.kernel_rules.specs.Lines.{is_plain, is_data_line, is_empty_line, is_marker};

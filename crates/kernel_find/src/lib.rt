@@ -1,5 +1,6 @@
 // The first pass over a kernel text: whether every line is allowed, and where each of the ten names is assigned.
 #![tactic(auto)]
+
 ghost use Rattle.std.specs.Prelude.{◌≡◌, cond, ◌≤◌, ◌<◌, ltb, length};
 ghost use Rattle.kernel_rules.specs.Assignments.{ends_well};
 ghost use Rattle.kernel_rules.specs.Names.{names};

@@ -1,5 +1,6 @@
 // Gathered tables, checked and handed out: 1, 2 and 3, then 16.
 #![tactic(auto)]
+
 ghost use Rattle.std.specs.Prelude.{◌≡◌, min};
 ghost use Rattle.kernel_rules.specs.Tables.{lists_of};
 ghost use Rattle.kernel_tables.specs.Given.{tables_with, kept_with};

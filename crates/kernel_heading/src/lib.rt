@@ -1,5 +1,6 @@
 // The names with one value: whether each is given as it may be, and their numbers.
 #![tactic(auto)]
+
 ghost use Rattle.std.specs.Prelude.{◌≡◌, false, ◌||◌, [], ◌∷◌, ◌<◌, eqb, length, get_or};
 ghost use Rattle.base.specs.Scans.{all_of};
 ghost use Rattle.kernel_rules.specs.Tables.{is_list, name_ok, is_exactly};

@@ -1,5 +1,6 @@
 // The head of an assignment's line: its name and its operator, and where its value begins.
 #![tactic(auto)]
+
 ghost use Rattle.std.specs.Prelude.{◌≡◌, ◌≤◌, min, length, drop};
 ghost use Rattle.base.specs.Scans.{all};
 ghost use Rattle.kernel_rules.specs.Assignments.{equals_at, is_plus, value_at, in_name, is_name};

@@ -1,5 +1,6 @@
 // The lines of a kernel text. The reader keeps the text and its place in it as one thing.
 #![tactic(auto)]
+
 ghost use Rattle.std.specs.Prelude.{◌≡◌, ◌≤◌, ◌<◌, length};
 ghost use Rattle.rules.specs.Text.{is_blank};
 ghost use Rattle.kernel_rules.specs.Lines.{is_return, trim_to, trim_one, kept_of};

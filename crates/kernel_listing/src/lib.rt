@@ -1,6 +1,7 @@
 // The five lists: whether each is given as it may be, whether its numbers are exact, and how many they are. The arrays keep as many as they
 // have room for.
 #![tactic(auto)]
+
 ghost use Rattle.std.specs.Prelude.{◌≡◌, [], ◌∷◌, ◌+◌, ◌<◌, ◌≤◌, ◌/◌, length, take, get_or};
 ghost use Rattle.base.specs.Scans.{all_of};
 ghost use Rattle.kernel_rules.specs.Tables.{values_given, numbers, counts_in, times_in, rates_in};

@@ -1,5 +1,6 @@
 // The lists of a kernel go to the lists that were lent: all of them, or none.
 #![tactic(auto)]
+
 ghost use Rattle.std.specs.Prelude.{◌≡◌, ◌∷◌, [], true, ◌≤◌, ◌<◌, leb, length, get_or, pos};
 ghost use Rattle.base.specs.Scans.{all_of};
 ghost use Rattle.kernel_rules.specs.Tables.{lists_of};

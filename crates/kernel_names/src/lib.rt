@@ -1,5 +1,6 @@
 // The ten names that a kernel gives a clock's tables by, and the clock's number at their ends.
 #![tactic(auto)]
+
 ghost use Rattle.std.specs.Prelude.{◌≡◌, [], ◌++◌, ◌≤◌, ◌<◌, length, take, get_or};
 ghost use Rattle.kernel_rules.specs.Lines.{same};
 ghost use Rattle.kernel_rules.specs.Names.{names, clock_digits, name_list, which, assigns};

@@ -1,5 +1,6 @@
 // A number of a kernel text as a whole number of units: sign, digits, point and exponent, each of any length.
 #![tactic(auto)]
+
 ghost use Rattle.std.specs.Prelude.{◌≡◌, false, ◌&&◌, ◌||◌, cond, ◌+◌, ◌*◌, ◌-◌, ◌^◌, ◌≤◌, ◌<◌, min, ltb, length, drop, get_or};
 ghost use Rattle.rules.specs.Text.{is_digit};
 ghost use Rattle.kernel_rules.specs.Lines.{longest_line};

@@ -1,5 +1,6 @@
 // The question of a script that reads a kernel text. The lent lists are as long as the line says, and each entry is one number before the call.
 #![tactic(auto)]
+
 ghost use Rattle.std.specs.Prelude.{◌≤◌, length};
 ghost use Rattle.put.specs.Places.{Put};
 

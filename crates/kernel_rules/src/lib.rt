@@ -1,5 +1,6 @@
 // The types that the definitions of kernel text name.
 #![tactic(auto)]
+
 use rules::Refusal;
 
 // Bytes of a data line.

@@ -1,5 +1,6 @@
 // What stands on a data line: the width of each token, and what the tokens do to a list.
 #![tactic(auto)]
+
 ghost use Rattle.std.specs.Prelude.{◌≡◌, ◌+◌, ◌≤◌, ◌<◌, cond, length, drop};
 ghost use Rattle.kernel_rules.specs.Tokens.{width_at, token_at, tokens_of, is_number_or_date, with_number, with_string, with_comma, with_close, item, items};
 

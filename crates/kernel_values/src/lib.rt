@@ -1,5 +1,6 @@
 // The values of one assignment, read from the place of its own line and stored in lent lists.
 #![tactic(auto)]
+
 ghost use Rattle.std.specs.Prelude.{◌≡◌, true, cond, ◌&&◌, ◌≤◌, ◌<◌, eqb, length, set};
 ghost use Rattle.kernel_rules.specs.Tables.{every, numbers, whole, in_nanoseconds, in_picoseconds, is_unsigned, unsigned, is_signed, counts_in, times_in, rates_in};
 ghost use Rattle.kernel_walk.specs.Places.{line_here, lines_behind, values_here};

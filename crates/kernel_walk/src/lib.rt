@@ -1,5 +1,6 @@
 // The walk over the values of one assignment, from the place of its own line.
 #![tactic(auto)]
+
 ghost use Rattle.std.specs.Prelude.{◌≡◌, false, not, cond, ◌+◌, ◌≤◌, ◌<◌, length, drop, get_or};
 ghost use Rattle.kernel_rules.specs.Lines.{is_gap, part, span, kernel_lines, begin_data, is_marker};
 ghost use Rattle.kernel_rules.specs.Tokens.{tokens_of};

@@ -12,7 +12,7 @@ use Rattle.base.specs.Scans.{all_of, all, product}
 use Rattle.base.proofs.Lists.{product_pos}
 use Rattle.base.proofs.Tests.{by_test, not_both, and_both, all_of_head, all_of_tail}
 use Rattle.rules.specs.declared.Layout.{Layout}
-use Rattle.rules.specs.Limits.{most_fields, largest_offset, largest_p, largest_mSF, last_delimiter, picoseconds}
+use Rattle.rules.specs.Limits.{most_fields, largest_offset, largest_p, largest_msf, last_delimiter, picoseconds}
 use Rattle.rules.specs.Layout.{moduli_of, offsets_of, product_of, msf_of, unit_of, layout_ok}
 use Rattle.rules.specs.Facts.{LayoutFacts}
 use Rattle.rules.proofs.Accepted.{layout_facts, layout_accepted}
@@ -51,14 +51,14 @@ module _ (l : Layout) where
   large_offset os eo {b} e h = refused_by (λ f. not_both (e ∙ rw (← eo) f.offsets) (not-true b h))
 
   module _ (ms os : List ℕ) (em : moduli_of l ≡ ms) (eo : offsets_of l ≡ os) where
-    module _ {b : Bool} (head : b ≡ head_ok l.n l.delimiter) (h : not b ≡ false) {c : Bool} (offsets : c ≡ all (λ o. leb o largest_offset) os) (k : not c ≡ false) (first m : ℕ) (ef : product ms ≡ first * product (drop 1 ms)) (e : m ≡ min (product (drop 1 ms)) (largest_mSF + 1)) where
+    module _ {b : Bool} (head : b ≡ head_ok l.n l.delimiter) (h : not b ≡ false) {c : Bool} (offsets : c ≡ all (λ o. leb o largest_offset) os) (k : not c ≡ false) (first m : ℕ) (ef : product ms ≡ first * product (drop 1 ms)) (e : m ≡ min (product (drop 1 ms)) (largest_msf + 1)) where
       head_holds : head_ok l.n l.delimiter ≡ true
       head_holds = sym head ∙ not-false b h
 
-      facts : m ≤ largest_mSF → first * m ≤ largest_p → 1 ≤ first * m → LayoutFacts l
+      facts : m ≤ largest_msf → first * m ≤ largest_p → 1 ≤ first * m → LayoutFacts l
       unfolding head_ok product_of msf_of
       facts small bound positive =
-          let msf : m ≡ product (drop 1 ms) = uncapped (product (drop 1 ms)) m largest_mSF e small in
+          let msf : m ≡ product (drop 1 ms) = uncapped (product (drop 1 ms)) m largest_msf e small in
           let whole : product ms ≡ first * m = rw (ef, msf) in
           let rest = all_of_tail _ _ head_holds in
           let third = all_of_tail _ _ rest in
@@ -75,17 +75,17 @@ module _ (l : Layout) where
 
       -- so the tests of `measure_moduli` are those of the layout
       abbrev test : Bool
-      test = all_of (leb m largest_mSF ∷ leb (first * m) largest_p ∷ leb 1 (first * m) ∷ [])
+      test = all_of (leb m largest_msf ∷ leb (first * m) largest_p ∷ leb 1 (first * m) ∷ [])
 
       tests : LayoutFacts l → test ≡ true
       unfolding all_of product_of msf_of
       tests f =
-          let small : product (drop 1 ms) ≤ largest_mSF = rw em at f.msf in
+          let small : product (drop 1 ms) ≤ largest_msf = rw em at f.msf in
           let msf : m ≡ product (drop 1 ms) = omega arith in
           let whole : first * m ≡ product ms = rw (ef, msf) in
           let bound : product ms ≤ largest_p = rw em at f.product in
           let positive : 1 ≤ product ms = product_pos ms (rw em at f.moduli) in
-          rw (whole, le-leb _ _ bound, le-leb _ _ positive, le-leb m largest_mSF (omega arith))
+          rw (whole, le-leb _ _ bound, le-leb _ _ positive, le-leb m largest_msf (omega arith))
 
       pub moduli_measured : (a : Answer Measured) → a ≡ measured_by first m → a ≡ measure_of l
       unfolding measure_of measured_by unless product_of unit_of msf_of
@@ -93,22 +93,22 @@ module _ (l : Layout) where
           q ∙ by_test test
           (λ t.
           let rest = all_of_tail _ _ t in
-          let small = leb-true m largest_mSF (all_of_head _ _ t) in
-          let msf : m ≡ product (drop 1 ms) = uncapped (product (drop 1 ms)) m largest_mSF e small in
+          let small = leb-true m largest_msf (all_of_head _ _ t) in
+          let msf : m ≡ product (drop 1 ms) = uncapped (product (drop 1 ms)) m largest_msf e small in
           let ok = layout_accepted l (facts small (leb-true (first * m) largest_p (all_of_head _ _ rest)) (leb-true 1 (first * m) (all_of_head _ _ (all_of_tail _ _ rest)))) in
           rw (t, ok, em, ef, ← msf))
           (λ f. rw f (refused_by (λ g. not_both (tests g) f)))
 
 -- the ways out of `measure_moduli`
 module _ (first m : ℕ) where
-  pub large_msf : largest_mSF < m → refuse 1 ≡ measured_by first m
+  pub large_msf : largest_msf < m → refuse 1 ≡ measured_by first m
   unfolding measured_by unless all_of
-  large_msf h = rw (lt-leb m largest_mSF h)
+  large_msf h = rw (lt-leb m largest_msf h)
 
-  module _ (small : m ≤ largest_mSF) (p : ℕ) (q : p ≡ min (first * m) (largest_p + 1)) where
+  module _ (small : m ≤ largest_msf) (p : ℕ) (q : p ≡ min (first * m) (largest_p + 1)) where
     pub large_product : largest_p < p → refuse 1 ≡ measured_by first m
     unfolding measured_by unless all_of
-    large_product h = rw (le-leb m largest_mSF small, lt-leb (first * m) largest_p (omega arith))
+    large_product h = rw (le-leb m largest_msf small, lt-leb (first * m) largest_p (omega arith))
 
     module _ (bound : p ≤ largest_p) where
       exact : p ≡ first * m
@@ -116,11 +116,11 @@ module _ (first m : ℕ) where
 
       pub zero_product : p < 1 → refuse 1 ≡ measured_by first m
       unfolding measured_by unless all_of
-      zero_product h = rw (le-leb m largest_mSF small, ← exact, le-leb p largest_p bound, lt-leb 1 p h)
+      zero_product h = rw (le-leb m largest_msf small, ← exact, le-leb p largest_p bound, lt-leb 1 p h)
 
       pub accepted : 1 ≤ p → answer (record { product = p; unit = picoseconds * m }) ≡ measured_by first m
       unfolding measured_by unless all_of
-      accepted h = rw (le-leb m largest_mSF small, ← exact, le-leb p largest_p bound, le-leb 1 p h)
+      accepted h = rw (le-leb m largest_msf small, ← exact, le-leb p largest_p bound, le-leb 1 p h)
 
 -- the ways out of `head_ok`
 module _ (n d : ℕ) where

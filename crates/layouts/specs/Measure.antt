@@ -4,7 +4,7 @@ use Rattle.base.specs.Scans.{all_of}
 use Rattle.rules.specs.declared.Layout.{Layout}
 use Rattle.rules.specs.Answer.{Answer, answer, refused, unless}
 use Rattle.rules.specs.Layout.{layout_ok, product_of, unit_of}
-use Rattle.rules.specs.Limits.{most_fields, last_delimiter, largest_p, largest_mSF, picoseconds, largest_unit}
+use Rattle.rules.specs.Limits.{most_fields, last_delimiter, largest_p, largest_msf, picoseconds, largest_unit}
 use Rattle.layouts.specs.declared.Measured.{Measured}
 use Rattle.layouts.specs.declared.MeasureAnswer.{MeasureAnswer}
 use Rattle.layouts.specs.declared.MeasureAnswer.TheVariants as Of
@@ -27,7 +27,7 @@ head_ok n d = all_of (leb 1 n ∷ leb n most_fields ∷ leb 1 d ∷ leb d last_d
 -- the same by the first modulus and the product of the others; a product of 0 has a modulus of 0
 unfoldable pub measured_by : ℕ → ℕ → Answer Measured
 measured_by first msf =
-    unless 1 (all_of (leb msf largest_mSF ∷ leb (first * msf) largest_p ∷ leb 1 (first * msf) ∷ [])) (answer (record { product = first * msf; unit = picoseconds * msf }))
+    unless 1 (all_of (leb msf largest_msf ∷ leb (first * msf) largest_p ∷ leb 1 (first * msf) ∷ [])) (answer (record { product = first * msf; unit = picoseconds * msf }))
 
 -- a unit that may divide
 pub record UnitFacts (unit : ℕ) : Type 0 where

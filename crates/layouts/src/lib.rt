@@ -1,5 +1,6 @@
 // The layout check, with the two numbers that other tables and calls need of a layout.
 #![tactic(auto)]
+
 ghost use Rattle.std.specs.Prelude.{◌≡◌, ◌≤◌, min, leb, length, take, drop};
 ghost use Rattle.base.specs.Scans.{all, product};
 ghost use Rattle.rules.specs.Limits.{most_fields};

@@ -1,5 +1,6 @@
 // A message: payload, clock text, and a two-byte trailer with the text's length.
 #![tactic(auto)]
+
 ghost use Rattle.std.specs.Prelude.{◌≡◌, ◌&&◌, ◌+◌, ◌*◌, leb};
 ghost use Rattle.rules.specs.Limits.{longest_text};
 ghost use Rattle.rules.specs.Answer.{read_answer};

@@ -1,5 +1,6 @@
 // Bytes, numbers and times as text, put into a buffer at `at`. Each function answers the place after what it put.
 #![tactic(auto)]
+
 ghost use Rattle.std.specs.Prelude.{◌≡◌, [], ◌∷◌, ◌++◌, ◌+◌, ◌≤◌, ◌<◌, length, take};
 ghost use Rattle.rules.specs.Print.{digit_count};
 ghost use Rattle.decimal.specs.Writing.{Written};

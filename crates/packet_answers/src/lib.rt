@@ -1,6 +1,7 @@
 // The answers to a script's questions about packets, each a line. Each function puts its bytes at `at` as far as there is room, and
 // answers the place after them.
 #![tactic(auto)]
+
 ghost use Rattle.put.specs.Places.{Put};
 
 use packet_rules::{Packet, PacketAnswer, PacketHeader, TimeOctets};

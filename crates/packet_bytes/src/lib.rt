@@ -1,8 +1,9 @@
 // The octets of a packet, written from right to left: each function is given where its octets end and answers where they start.
 #![tactic(auto)]
+
 ghost use Rattle.std.specs.Prelude.{◌≡◌, [], ◌∷◌, ◌++◌, ◌+◌, ◌-◌, ◌/◌, ◌^◌, length};
 ghost use Rattle.decimal.specs.Writing.{Room, Written};
-ghost use Rattle.packet_rules.specs.Octets.{octets as lowOctets};
+ghost use Rattle.packet_rules.specs.Octets.{octets as low_octets};
 ghost use Rattle.packet_rules.specs.Header.{time_end};
 ghost use Rattle.packet_rules.specs.Write.{identification_of, sequence_control_of, p_field_of, packet_bytes};
 ghost use Rattle.packet_ranges.specs.Octets.{OctetsFacts};
@@ -49,24 +50,24 @@ fn write_front(
     end: usize,
     buffer: &mut [u8],
 ) -> usize
-    requires { Room ((lowOctets 2 identification ++ lowOctets 2 control) ++ (lowOctets 2 length ++ (p ∷ []))) end buffer.old }
-    ensures { Written ((lowOctets 2 identification ++ lowOctets 2 control) ++ (lowOctets 2 length ++ (p ∷ []))) end result buffer.old buffer.new }
+    requires { Room ((low_octets 2 identification ++ low_octets 2 control) ++ (low_octets 2 length ++ (p ∷ []))) end buffer.old }
+    ensures { Written ((low_octets 2 identification ++ low_octets 2 control) ++ (low_octets 2 length ++ (p ∷ []))) end result buffer.old buffer.new }
 {
     let middle = write_length(length, p, end, buffer);
     write_words(identification, control, middle, buffer)
 }
 
 fn write_words(first: u64, second: u64, end: usize, buffer: &mut [u8]) -> usize
-    requires { Room (lowOctets 2 first ++ lowOctets 2 second) end buffer.old }
-    ensures { Written (lowOctets 2 first ++ lowOctets 2 second) end result buffer.old buffer.new }
+    requires { Room (low_octets 2 first ++ low_octets 2 second) end buffer.old }
+    ensures { Written (low_octets 2 first ++ low_octets 2 second) end result buffer.old buffer.new }
 {
     let middle = write_octets(second, 2, end, buffer);
     write_octets(first, 2, middle, buffer)
 }
 
 fn write_length(length: u64, p: u8, end: usize, buffer: &mut [u8]) -> usize
-    requires { Room (lowOctets 2 length ++ (p ∷ [])) end buffer.old }
-    ensures { Written (lowOctets 2 length ++ (p ∷ [])) end result buffer.old buffer.new }
+    requires { Room (low_octets 2 length ++ (p ∷ [])) end buffer.old }
+    ensures { Written (low_octets 2 length ++ (p ∷ [])) end result buffer.old buffer.new }
 {
     let middle = write_byte(p, end, buffer);
     write_octets(length, 2, middle, buffer)
@@ -82,8 +83,8 @@ fn write_data(
     end: usize,
     buffer: &mut [u8],
 ) -> usize
-    requires { Room ((lowOctets coarse units ++ lowOctets fine count) ++ payload.now) end buffer.old }
-    ensures { Written ((lowOctets coarse units ++ lowOctets fine count) ++ payload.now) end result buffer.old buffer.new }
+    requires { Room ((low_octets coarse units ++ low_octets fine count) ++ payload.now) end buffer.old }
+    ensures { Written ((low_octets coarse units ++ low_octets fine count) ++ payload.now) end result buffer.old buffer.new }
 {
     let middle = write_part(payload, end, buffer);
     write_time(units, coarse, count, fine, middle, buffer)
@@ -97,8 +98,8 @@ fn write_time(
     end: usize,
     buffer: &mut [u8],
 ) -> usize
-    requires { Room (lowOctets coarse units ++ lowOctets fine count) end buffer.old }
-    ensures { Written (lowOctets coarse units ++ lowOctets fine count) end result buffer.old buffer.new }
+    requires { Room (low_octets coarse units ++ low_octets fine count) end buffer.old }
+    ensures { Written (low_octets coarse units ++ low_octets fine count) end result buffer.old buffer.new }
 {
     let middle = write_octets(count, fine, end, buffer);
     write_octets(units, coarse, middle, buffer)

@@ -10,7 +10,7 @@ use Rattle.base.specs.Scans.{product}
 use Rattle.rules.specs.declared.Layout.{Layout}
 use Rattle.rules.specs.declared.Refusal.{Refusal}
 use Rattle.rules.specs.Answer.{Answer, answer, refused, refuse, unless, and_then}
-use Rattle.rules.specs.Limits.{largest_mSF}
+use Rattle.rules.specs.Limits.{largest_msf}
 use Rattle.rules.specs.Layout.{layout_ok, product_of, msf_of}
 use Rattle.rules.specs.Partitions.{Partitions, partitions_fault}
 use Rattle.rules.specs.Accepted.{accepted_stamps}
@@ -37,7 +37,7 @@ module _ (l : Layout) (p : Partitions) where
   two_fields h m w r e = passed 1 (eqb l.n 2) _ _ (eq-eqb l.n 2 h) (stamps_same l p m w r e)
 
 -- the second modulus is the product of all but the first
-second_small : (n : ℕ) (ms : List ℕ) → n ≡ 2 → product (drop 1 (take n ms)) ≤ largest_mSF → get_or ms 1 0 ≤ largest_mSF
+second_small : (n : ℕ) (ms : List ℕ) → n ≡ 2 → product (drop 1 (take n ms)) ≤ largest_msf → get_or ms 1 0 ≤ largest_msf
 unfolding product
 second_small n [] e h = omega arith
 second_small n (x ∷ []) e h = omega arith

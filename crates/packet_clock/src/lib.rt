@@ -1,5 +1,6 @@
 // The clock that a packet's time is counted by: the tables' refusals, 1 and 2, where a clock without two fields is refused 1 too.
 #![tactic(auto)]
+
 ghost use Rattle.std.specs.Prelude.{◌≡◌};
 ghost use Rattle.rules.specs.Partitions.{partitions};
 ghost use Rattle.tables.specs.Accept.{acceptance};

@@ -1,5 +1,6 @@
 // Reading a packet as one function of an archive, so that its machine code can be looked through. It is no call for host programs.
 #![tactic(auto)]
+
 ghost use Rattle.std.specs.Prelude.{◌≡◌, [], ◌∷◌};
 ghost use Rattle.rules.specs.Partitions.{partitions};
 ghost use Rattle.packet_rules.specs.Read.{read_packet};

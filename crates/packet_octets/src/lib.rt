@@ -1,6 +1,7 @@
 // Octets of a packet: fields of a few bits, numbers in octets, high octet first, and octets written into a buffer from right to
 // left. Nothing here divides or takes a remainder by anything but a power of two.
 #![tactic(auto)]
+
 ghost use Rattle.std.specs.Prelude.{◌≡◌, ◌+◌, ◌/◌, ◌%◌, ◌^◌, ◌≤◌, ◌<◌, length, take, drop};
 ghost use Rattle.decimal.specs.Writing.{Room, Written};
 ghost use Rattle.packet_rules.specs.Octets.{big, bits, octets};

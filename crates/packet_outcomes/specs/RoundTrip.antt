@@ -1,4 +1,4 @@
--- "a written packet reads back as the same clock count, and as the same encoded count where no earlier partition holds it". proofs/Round_trip.antt has the proof.
+-- "a written packet reads back as the same clock count, and as the same encoded count where no earlier partition holds it". proofs/RoundTrip.antt has the proof.
 use Rattle.std.specs.Prelude.{ℕ, ◌+◌, ◌-◌, ◌≤◌, ◌<◌, ◌≡◌, true, List, ◌⊎◌, length, take, drop}
 use Rattle.rules.specs.declared.Layout.{Layout}
 use Rattle.rules.specs.Answer.{Answer, answer, refuse}

@@ -1,5 +1,6 @@
 // The ranges of what a packet is written from.
 #![tactic(auto)]
+
 ghost use Rattle.std.specs.Prelude.{◌≡◌, ◌^◌, ◌≤◌};
 ghost use Rattle.packet_rules.specs.Write.{writable};
 

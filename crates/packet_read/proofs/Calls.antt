@@ -3,7 +3,7 @@ use Prim.Native.Nat.{ℕ, ◌≤◌, min}
 use mathlib.Core.Path.{◌≡◌, sym}
 use mathlib.Core.List.{List}
 use native.Mathlib.Nat.{lt_of_lt_of_le}
-use Rattle.rules.specs.Limits.{largest_p, largest_mSF}
+use Rattle.rules.specs.Limits.{largest_p, largest_msf}
 use Rattle.rules.specs.declared.Layout.{Layout}
 use Rattle.rules.specs.declared.Refusal.{Refusal}
 use Rattle.rules.specs.Answer.{Answer, answer, refused, and_then}
@@ -58,7 +58,7 @@ module _ (l : Layout) (p : Partitions) (s : List ℕ) (f : Form) (e : form_answe
           let facts = (clock_facts l p q v b g).stamps in
           record { listed = listed (product_of l) p facts.partitions; small = λ i there. lt_of_lt_of_le (facts.partitions.each i there).in-range facts.layout.product }
 
-      pub modulus_small : second_modulus l ≤ largest_mSF
+      pub modulus_small : second_modulus l ≤ largest_msf
       modulus_small = (clock_facts l p q v b g).modulus
 
       pub read_counted : (m : ℕ) → m ≡ second_modulus l → (x : Answer Packet) → x ≡ packet_at p s (ticks_in m o s) → x ≡ read_packet l p s

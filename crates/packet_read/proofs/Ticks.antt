@@ -12,7 +12,7 @@ use borrow.Author.Tests.{lt-leb, leb-true, leb-false}
 use Rattle.base.specs.Rounding.{round_down}
 use Rattle.base.proofs.Tests.{by_test, and_out_second}
 use Rattle.base.proofs.Scans.{first_none}
-use Rattle.rules.specs.Limits.{largest_p, largest_mSF}
+use Rattle.rules.specs.Limits.{largest_p, largest_msf}
 use Rattle.rules.specs.Answer.{refuse, and_then}
 use Rattle.rules.specs.Partitions.{Partitions, partitions_in, start_of, end_of}
 use Rattle.rules.specs.Stamp.{holds, encode_found, encode_first}
@@ -30,7 +30,7 @@ ticks_split m f coarse fine = rw spread (mul-add-div_right {m = 256 ^ f} (one-le
     spread : (coarse * 256 ^ f + fine) * m ≡ coarse * m * 256 ^ f + fine * m
     spread = add-mul (coarse * 256 ^ f) fine m ∙ ap (λ (x : ℕ). x + fine * m) (mul_assoc coarse (256 ^ f) m ∙ ap (λ (x : ℕ). coarse * x) (mul_comm (256 ^ f) m) ∙ sym (mul_assoc coarse m (256 ^ f)))
 
-module _ (m f fine : ℕ) (small : m ≤ largest_mSF) (few : f ≤ 3) (below : fine < 256 ^ f) where
+module _ (m f fine : ℕ) (small : m ≤ largest_msf) (few : f ≤ 3) (below : fine < 256 ^ f) where
   pub fine_fits : Fits w64 (fine * m)
   fine_fits =
       let bound : fine ≤ 16_777_215 = omega (arith, below, pow-le-pow_right {n = 256} (omega arith) {i = f} {j = 3} few) in

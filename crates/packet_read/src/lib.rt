@@ -1,8 +1,9 @@
 // Reading a packet: its header's fields, where its data stand, and the count of its time. Nothing in it divides.
 #![tactic(auto)]
+
 ghost use Rattle.std.specs.Prelude.{◌≡◌, ◌∷◌, [], ◌+◌, ◌^◌, ◌≤◌, ◌<◌, min, eqb, length};
 ghost use Rattle.base.specs.Scans.{all_of};
-ghost use Rattle.rules.specs.Limits.{largest_p, largest_mSF};
+ghost use Rattle.rules.specs.Limits.{largest_p, largest_msf};
 ghost use Rattle.rules.specs.Answer.{answer};
 ghost use Rattle.rules.specs.Partitions.{partitions};
 ghost use Rattle.packet_rules.specs.Octets.{bits};
@@ -109,7 +110,7 @@ fn count_packet(
     packet: &[u8],
 ) -> PacketAnswer
     requires held { Held (partitions starts.now ends.now) }
-    requires modulus_le_largest_msf { modulus ≤ largest_mSF }
+    requires modulus_le_largest_msf { modulus ≤ largest_msf }
     requires time_there { TimeThere octets packet.now }
     ensures { packet_answer result ≡ packet_at (partitions starts.now ends.now) packet.now (ticks_in modulus octets packet.now) }
 {
@@ -128,7 +129,7 @@ fn count_packet(
 
 // The ticks of the time, or the largest P where they are more: no partition holds either.
 fn count_time(modulus: u64, octets: TimeOctets, packet: &[u8]) -> u64
-    requires modulus_le_largest_msf { modulus ≤ largest_mSF }
+    requires modulus_le_largest_msf { modulus ≤ largest_msf }
     requires time_there { TimeThere octets packet.now }
     ensures { result ≡ min (ticks_in modulus octets packet.now) largest_p }
 {
@@ -141,7 +142,7 @@ fn count_time(modulus: u64, octets: TimeOctets, packet: &[u8]) -> u64
 
 // The whole units are whole ticks, so that only the fine part's ticks are shifted, by eight bits for each of its octets.
 fn count_ticks(modulus: u64, octets: u8, coarse: u64, fine: u64) -> u64
-    requires modulus_le_largest_msf { modulus ≤ largest_mSF }
+    requires modulus_le_largest_msf { modulus ≤ largest_msf }
     requires octets_bound { (octets ≤ 3) × (fine < 256 ^ octets) }
     ensures { result ≡ min (ticks modulus octets coarse fine) largest_p }
 {

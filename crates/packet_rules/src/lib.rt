@@ -1,5 +1,6 @@
 // The types that the definitions of satellite packets name.
 #![tactic(auto)]
+
 use rules::Refusal;
 
 // The fields of a packet's primary header that are handed through as they are. Its version, its secondary header flag and its

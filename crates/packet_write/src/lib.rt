@@ -1,6 +1,7 @@
 // Writing a packet: header fields, an encoded count as its time, and data, to the front of a lent buffer. All is checked before the
 // first byte is written, so that a refusal leaves the buffer.
 #![tactic(auto)]
+
 ghost use Rattle.std.specs.Prelude.{◌≡◌, length};
 ghost use Rattle.rules.specs.Answer.{print_answer};
 ghost use Rattle.rules.specs.Partitions.{partitions};

@@ -1,5 +1,6 @@
 // Clock text to its count, and a stamp to the partition's number and the count: what is written, before any partition is looked at.
 #![tactic(auto)]
+
 ghost use Rattle.std.specs.Prelude.{◌≡◌, ◌&&◌, cond, ◌≤◌, ltb, eqb, length, get_or, drop};
 ghost use Rattle.base.specs.Scans.{among};
 ghost use Rattle.rules.specs.Answer.{answer, and_then, read_answer};

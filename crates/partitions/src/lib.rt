@@ -1,5 +1,6 @@
 // The partition check, with the total.
 #![tactic(auto)]
+
 ghost use Rattle.std.specs.Prelude.{◌≡◌, ◌≤◌, min};
 ghost use Rattle.rules.specs.Limits.{largest_total};
 ghost use Rattle.rules.specs.Partitions.{partitions};

@@ -1,5 +1,6 @@
 // The questions of a script over its tables, each over one public call. Each function puts its answer at `place`, and answers the place after it.
 #![tactic(auto)]
+
 ghost use Rattle.std.specs.Prelude.{◌≤◌, length};
 ghost use Rattle.put.specs.Places.{Put};
 

@@ -1,6 +1,7 @@
 // Quotients of a two-word product by one word, worked out bit by bit: shift and subtract, and no division. The divisor is at most
 // 2^63, so that twice a rest fits a word.
 #![tactic(auto)]
+
 ghost use Rattle.std.specs.Prelude.{◌≡◌, ◌+◌, ◌*◌, ◌^◌, ◌<◌, ◌≤◌, if◌then◌else◌};
 ghost use Rattle.wide.specs.Wide.{value};
 ghost use Rattle.base.specs.Rounding.{round_down, round_up};

@@ -1,6 +1,7 @@
 // A raw counter's two calls: a reset to a partition's start, and a reading of its raw number. Both take the counter as it is
 // and give it as it is afterwards.
 #![tactic(auto)]
+
 ghost use Rattle.std.specs.Prelude.{◌≡◌, ◌+◌, ◌-◌, ◌&&◌, length, nat_le};
 ghost use Rattle.rules.specs.Answer.{answer, unless};
 ghost use Rattle.rules.specs.Partitions.{partitions, lengths_before};

@@ -1,6 +1,7 @@
 // The lines of a script over its raw counter, and its question of seconds. Each function that puts an answer puts it at `place`, and
 // answers the place after it.
 #![tactic(auto)]
+
 ghost use Rattle.put.specs.Places.{Put};
 
 use raw_rules::{RawAnswer, RawCounter, RawStep};

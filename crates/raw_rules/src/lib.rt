@@ -1,5 +1,6 @@
 // The types that the definitions of raw counters name.
 #![tactic(auto)]
+
 use rules::Refusal;
 
 // What is kept of a satellite that sends its tick counter: the last raw number, the encoded count that it stands for, and

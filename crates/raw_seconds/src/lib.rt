@@ -1,5 +1,6 @@
 // Seconds with microseconds to a count of 256 a second.
 #![tactic(auto)]
+
 ghost use Rattle.std.specs.Prelude.{◌≡◌};
 ghost use Rattle.raw_rules.specs.Counter.{raw_answer};
 ghost use Rattle.raw_rules.specs.Seconds.{read_seconds};

@@ -1,5 +1,6 @@
 // The sentence of a refusal, and a refusal as the fields of a line, put into a buffer at `at`. Each function answers the place after what it put.
 #![tactic(auto)]
+
 ghost use Rattle.std.specs.Prelude.{◌≡◌, [], ◌∷◌, ◌++◌, ◌+◌, ◌≤◌, ◌<◌, length};
 ghost use Rattle.decimal.specs.Writing.{Written};
 ghost use Rattle.command_rules.specs.Sentences.{sentence};

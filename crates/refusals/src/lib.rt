@@ -1,6 +1,7 @@
 // The refusals of the table "What is refused", by name. Code refuses with one of these and writes no number.
 // A refusal that has a place is a function of it: a byte of the text, or a row.
 #![tactic(auto)]
+
 ghost use Rattle.std.specs.Prelude.{◌≡◌};
 ghost use Rattle.rules.specs.Answer.{placed};
 

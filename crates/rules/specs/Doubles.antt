@@ -4,7 +4,7 @@ use Rattle.std.specs.Prelude.{ℕ, Bool, true, false, not, ◌&&◌, [], ◌∷�
 use Rattle.std.specs.Float.{nan, inf, fin, binary64}
 use Rattle.std.specs.Float.Ieee.{add, sub, mul, div, lt, eq, of_int}
 use Rattle.base.specs.Scans.{all_of}
-use Rattle.rules.specs.Limits.{largest_mSF, largest_count}
+use Rattle.rules.specs.Limits.{largest_msf, largest_count}
 use Rattle.rules.specs.Answer.{Answer, answer, unless}
 use Rattle.rules.specs.declared.DoubleSegment.{DoubleSegment}
 
@@ -26,7 +26,7 @@ count_after s msf t = add binary64 s.count (div binary64 (sub binary64 t s.time)
 
 -- "MSF 0 or above 10^12"
 unfoldable pub msf_ok : ℕ → Bool
-msf_ok msf = leb 1 msf && leb msf largest_mSF
+msf_ok msf = leb 1 msf && leb msf largest_msf
 
 -- "a number not finite": a NaN or an infinity
 unfoldable pub finite : Float → Bool

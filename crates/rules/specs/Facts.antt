@@ -6,7 +6,7 @@ use Rattle.rules.specs.Limits.{
   most_fields,
   largest_offset,
   largest_p,
-  largest_mSF,
+  largest_msf,
   last_delimiter,
   most_partitions,
   largest_total,
@@ -26,7 +26,7 @@ pub record LayoutFacts (l : Layout) : Type 0 where
   pub moduli : all (λ m. leb 1 m) (moduli_of l) ≡ true
   pub offsets : all (λ o. leb o largest_offset) (offsets_of l) ≡ true
   pub product : product_of l ≤ largest_p
-  pub msf : msf_of l ≤ largest_mSF
+  pub msf : msf_of l ≤ largest_msf
   pub delimiter_low : 1 ≤ l.delimiter
   pub delimiter_high : l.delimiter ≤ last_delimiter
 

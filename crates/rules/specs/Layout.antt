@@ -1,7 +1,7 @@
 -- "A clock has n cascading fields". The layout is accepted exactly where each of the tests holds.
 use Rattle.std.specs.Prelude.{ℕ, ◌*◌, Bool, List, [], ◌∷◌, leb, take, drop}
 use Rattle.base.specs.Scans.{all_of, all, product}
-use Rattle.rules.specs.Limits.{most_fields, largest_offset, largest_p, largest_mSF, last_delimiter, picoseconds}
+use Rattle.rules.specs.Limits.{most_fields, largest_offset, largest_p, largest_msf, last_delimiter, picoseconds}
 use Rattle.rules.specs.declared.Layout.{Layout}
 
 -- "Slots after the n-th are not looked at."
@@ -33,7 +33,7 @@ layout_ok l =
     ∷ all (λ m. leb 1 m) (moduli_of l)
     ∷ all (λ o. leb o largest_offset) (offsets_of l)
     ∷ leb (product_of l) largest_p
-    ∷ leb (msf_of l) largest_mSF
+    ∷ leb (msf_of l) largest_msf
     ∷ leb 1 l.delimiter
     ∷ leb l.delimiter last_delimiter
     ∷ [])

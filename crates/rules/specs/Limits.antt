@@ -14,8 +14,8 @@ abbrev pub largest_p : ℕ
 largest_p = 1_000_000_000_000_000
 
 -- "MSF .. is at most 10^12"
-abbrev pub largest_mSF : ℕ
-largest_mSF = 1_000_000_000_000
+abbrev pub largest_msf : ℕ
+largest_msf = 1_000_000_000_000
 
 -- delimiter codes are 1 to 5
 abbrev pub last_delimiter : ℕ
@@ -46,7 +46,7 @@ picoseconds = 1_000
 
 -- 1,000×MSF at the largest MSF
 abbrev pub largest_unit : ℕ
-largest_unit = picoseconds * largest_mSF
+largest_unit = picoseconds * largest_msf
 
 -- "to 10^15"
 abbrev pub largest_rate : ℕ

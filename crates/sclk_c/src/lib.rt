@@ -1,6 +1,7 @@
 // The calls for a host program in C (include/stitchwold.h), on numbers and byte slices only. Each answers as the inner call on the
 // same numbers: a count or a length as itself, a refusal as its number's negative.
 #![tactic(auto)]
+
 ghost use Rattle.std.specs.Prelude.{◌≡◌, length};
 ghost use Rattle.rules.specs.Text.{read_text};
 ghost use Rattle.rules.specs.Stamp.{read_stamp};
@@ -17,13 +18,7 @@ use c_given::{count_given, count_read, length_given, time_given};
 use print::print_count;
 use text::read_text;
 
-pub fn sclk_read_text(
-    n: u64,
-    delimiter: u64,
-    moduli: &[u8],
-    offsets: &[u8],
-    text: &[u8],
-) -> i64
+pub fn sclk_read_text(n: u64, delimiter: u64, moduli: &[u8], offsets: &[u8], text: &[u8]) -> i64
     ensures { result ≡ returned (count_read (read_text (layout_from n delimiter moduli.now offsets.now) text.now)) }
 {
     let layout = layout_of(n, delimiter, moduli, offsets);

@@ -102,7 +102,9 @@ pub extern "C" fn sclk_time_of(
     ensures value { result ≡ returned (zero_given (time_written (time_of (layout_from n delimiter moduli.now offsets.now) (partitions_from starts.now ends.now) (segments_from counts.now times.now rates.now) count) (length time.old))) }
     ensures time_after { time.new ≡ buffer_after (time_written (time_of (layout_from n delimiter moduli.now offsets.now) (partitions_from starts.now ends.now) (segments_from counts.now times.now rates.now) count) (length time.old)) time.old }
 {
-    sclk_c::sclk_time_of(n, delimiter, moduli, offsets, starts, ends, counts, times, rates, count, time)
+    sclk_c::sclk_time_of(
+        n, delimiter, moduli, offsets, starts, ends, counts, times, rates, count, time,
+    )
 }
 
 #[unsafe(no_mangle)]
@@ -120,5 +122,7 @@ pub extern "C" fn sclk_count_at(
 ) -> i64
     ensures { result ≡ returned (count_given (count_at (layout_from n delimiter moduli.now offsets.now) (partitions_from starts.now ends.now) (segments_from counts.now times.now rates.now) time)) }
 {
-    sclk_c::sclk_count_at(n, delimiter, moduli, offsets, starts, ends, counts, times, rates, time)
+    sclk_c::sclk_count_at(
+        n, delimiter, moduli, offsets, starts, ends, counts, times, rates, time,
+    )
 }

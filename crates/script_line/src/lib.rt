@@ -1,5 +1,6 @@
 // What one line of a script does: it changes the tables, the raw counter or the tail buffer, or it is a question and has an answer, or both.
 #![tactic(auto)]
+
 ghost use Rattle.std.specs.Prelude.{◌≤◌, length};
 ghost use Rattle.put.specs.Places.{Put};
 ghost use Rattle.script_tables.specs.Sizes.{Fit};

@@ -1,5 +1,6 @@
 // The tables: the layout as the numbers of its line, and five lists, each with how many entries it holds. Behind them stands the older table, likewise.
 #![tactic(auto)]
+
 ghost use Rattle.std.specs.Prelude.{◌*◌, ◌+◌, ◌<◌, ◌≤◌, ◌≡◌, pos, length, get_or, set, take, drop};
 ghost use Rattle.script_names.specs.Rows.{most_numbers};
 ghost use Rattle.script_tables.specs.declared.Taken.TheVariants.{Changed};

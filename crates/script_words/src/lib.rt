@@ -1,4 +1,5 @@
 // The words of a script's line: numbers and bytes.
 #![tactic(auto)]
+
 pub mod hex;
 pub mod numbers;

@@ -1,5 +1,6 @@
 // One segment's line, in both directions.
 #![tactic(auto)]
+
 ghost use Rattle.std.specs.Prelude.{◌≡◌};
 ghost use Rattle.rules.specs.Segments.{line_at};
 ghost use Rattle.rules.specs.Time.{ticks_since};

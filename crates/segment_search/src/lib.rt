@@ -1,5 +1,6 @@
 // The segment of a count or of a time: the last row that has begun, by halving a list that grows.
 #![tactic(auto)]
+
 ghost use Rattle.std.specs.Prelude.{◌≡◌};
 ghost use Rattle.base.specs.Scans.{greatest_below};
 ghost use Rattle.rules.specs.Time.{segment_of, segment_at};

@@ -1,5 +1,6 @@
 // The segment check, and whether accepted segments step back: one pass over the rows each.
 #![tactic(auto)]
+
 ghost use Rattle.std.specs.Prelude.{◌≡◌, ◌≤◌, min};
 ghost use Rattle.rules.specs.Segments.{segments, steps_back};
 ghost use Rattle.segments.specs.Rows.{check_answer, accepted_segments, lengths_ok, Rising};

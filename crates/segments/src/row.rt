@@ -3,7 +3,7 @@
 ghost use Rattle.std.specs.Prelude.{◌≡◌, true, ◌&&◌, ◌≤◌, leb};
 ghost use Rattle.std.proofs.Math.Option.{some};
 ghost use Rattle.std.specs.Int.Signed.{le_z};
-ghost use Rattle.rules.specs.Segments.{segments, row_of, row_ok, follows, line_ok, overtakes as overtakesNext};
+ghost use Rattle.rules.specs.Segments.{segments, row_of, row_ok, follows, line_ok, overtakes as overtakes_next};
 ghost use Rattle.segments.specs.Rows.{RowIn};
 
 use layouts::limits::{EARLIEST_TIME, LARGEST_RATE, LATEST_TIME};
@@ -91,7 +91,7 @@ fn line_ok(unit: u64, row: Segment, end: u64) -> bool
 pub fn overtakes(unit: u64, row: Segment, next: Segment) -> bool
     requires le_unit { 1 ≤ unit }
     requires time_value { le_z row.time next.time ≡ true }
-    ensures { result ≡ overtakesNext unit row next }
+    ensures { result ≡ overtakes_next unit row next }
 {
     !product_at_most(
         row.rate,

@@ -1,6 +1,5 @@
 // The stamp program: stamps from standard input under table A, for each line its encoded count and its time, or `refused`,
-// the number and its place. `run`, `write_answers` and `write_last` move bytes by system calls; all else works on slices, and its contracts say
-// every byte.
+// the number and its place. `run`, `write_answers` and `write_last` read and write; all else works on slices. The contracts say every byte.
 #![tactic(auto)]
 
 ghost use Rattle.std.specs.Prelude.{◌≡◌, ◌+◌, ◌-◌, ◌^◌, ◌<◌, ◌≤◌, min, length, take, replicate, IfOk, OnOk, IfSome};

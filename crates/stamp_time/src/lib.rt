@@ -1,5 +1,6 @@
 // A stamp or a message to its encoded count and its time, with one check of each table.
 #![tactic(auto)]
+
 ghost use Rattle.std.specs.Prelude.{◌≡◌};
 ghost use Rattle.rules.specs.Answer.{unless_at, stamp_answer};
 ghost use Rattle.rules.specs.Partitions.{partitions};

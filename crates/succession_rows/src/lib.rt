@@ -1,5 +1,6 @@
 // What a newer table keeps of an older one, part by part: how many rows at the front are as they must be.
 #![tactic(auto)]
+
 ghost use Rattle.std.specs.Prelude.{◌≡◌, [], ◌∷◌, ◌≤◌, min, eqb, length, take};
 ghost use Rattle.base.specs.Scans.{all_of};
 ghost use Rattle.rules.specs.Limits.{most_fields, most_segments};

@@ -1,5 +1,6 @@
 // The types that the definitions of two tables, an older and a newer, name.
 #![tactic(auto)]
+
 use rules::Refusal;
 
 // What a newer table must meet to succeed an older one, in the order in which it is asked.

@@ -1,5 +1,6 @@
 // What holds of an older and a newer table that are accepted: whether the one succeeds the other, and below which encoded count they agree.
 #![tactic(auto)]
+
 ghost use Rattle.std.specs.Prelude.{◌≡◌};
 ghost use Rattle.rules.specs.Partitions.{partitions};
 ghost use Rattle.rules.specs.Segments.{segments};

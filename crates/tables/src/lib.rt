@@ -1,6 +1,7 @@
 // Whether tables are accepted: 1 layout, 2 partitions, 3 segments, in this order, with the numbers that calls need of them;
 // and the question whether a table steps back.
 #![tactic(auto)]
+
 ghost use Rattle.std.specs.Prelude.{◌≡◌};
 ghost use Rattle.rules.specs.Answer.{and_then, steps_back_answer};
 ghost use Rattle.rules.specs.Partitions.{partitions};

@@ -1,5 +1,6 @@
 // The questions of a script about two tables, the older and the script's own. Each function puts its answer at `place`, and answers the place after it.
 #![tactic(auto)]
+
 ghost use Rattle.std.specs.Prelude.{◌≡◌};
 ghost use Rattle.put.specs.Places.{Put};
 ghost use Rattle.script_tables.specs.Sizes.{Fit};

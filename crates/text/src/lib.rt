@@ -1,5 +1,6 @@
 // Clock text to its count, and a stamp to its encoded count.
 #![tactic(auto)]
+
 ghost use Rattle.std.specs.Prelude.{◌≡◌, ◌≤◌, length, take};
 ghost use Rattle.rules.specs.Answer.{answer, and_then, read_answer, reading};
 ghost use Rattle.rules.specs.Partitions.{partitions};

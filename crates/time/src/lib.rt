@@ -1,5 +1,6 @@
 // Count to time and time to count.
 #![tactic(auto)]
+
 ghost use Rattle.std.specs.Prelude.{◌≡◌};
 ghost use Rattle.rules.specs.Answer.{time_answer, count_answer};
 ghost use Rattle.rules.specs.Partitions.{partitions};

@@ -1,5 +1,6 @@
 // Exact arithmetic where a word may not do: products of two words and what is asked of them, and a difference that stops at 0.
 #![tactic(auto)]
+
 ghost use Rattle.std.specs.Prelude.{◌≡◌, ◌+◌, ◌-◌, ◌*◌, ◌/◌, ◌%◌, ◌^◌, min, leb};
 ghost use Rattle.wide.specs.Wide.{value};
 

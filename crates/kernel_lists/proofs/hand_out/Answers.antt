@@ -37,18 +37,21 @@ copy-requires-6 c = (c.all_fit.ensures.rooms c.if-not-all_fit.false).f6
 
 -- src/lib.rt:46:1
 pub returns : goal.returns
-returns c = record { value = (all_handed _ _ _ c.all_fit.ensures.value (ap not c.if-not-all_fit.false) _ _ _ _ _ _ _
-    c.copy.ensures
-    c.copy-2.ensures
-    c.copy-3.ensures
-    c.copy-4.ensures
-    c.copy-5.ensures
-    c.copy_times.ensures
-    c.copy-6.ensures).0; torates_after = (all_handed _ _ _ c.all_fit.ensures.value (ap not c.if-not-all_fit.false) _ _ _ _ _ _ _
-    c.copy.ensures
-    c.copy-2.ensures
-    c.copy-3.ensures
-    c.copy-4.ensures
-    c.copy-5.ensures
-    c.copy_times.ensures
-    c.copy-6.ensures).1 }
+returns c = record {
+  value = (all_handed _ _ _ c.all_fit.ensures.value (ap not c.if-not-all_fit.false) _ _ _ _ _ _ _
+      c.copy.ensures
+      c.copy-2.ensures
+      c.copy-3.ensures
+      c.copy-4.ensures
+      c.copy-5.ensures
+      c.copy_times.ensures
+      c.copy-6.ensures).0;
+  torates_after = (all_handed _ _ _ c.all_fit.ensures.value (ap not c.if-not-all_fit.false) _ _ _ _ _ _ _
+      c.copy.ensures
+      c.copy-2.ensures
+      c.copy-3.ensures
+      c.copy-4.ensures
+      c.copy-5.ensures
+      c.copy_times.ensures
+      c.copy-6.ensures).1;
+}
