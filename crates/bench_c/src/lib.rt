@@ -80,10 +80,10 @@ fn bench_texts<R: Env + CpuClock + Print>(
     slots: &[u8],
     asked: u64,
 ) -> io::Result<()> {
-    let from = clock(rt)?;
+    let from = clock(rt);
     let sum = bench_partitions::checksum(rt, Question::Text, &[], &[], slots, LAST, asked);
     line(rt, b"read-text", asked, sum, timed, from)?;
-    let from = clock(rt)?;
+    let from = clock(rt);
     let sum = checksum(
         rt,
         Question::Text,
@@ -96,10 +96,10 @@ fn bench_texts<R: Env + CpuClock + Print>(
         asked,
     );
     line(rt, b"c-read-text", asked, sum, timed, from)?;
-    let from = clock(rt)?;
+    let from = clock(rt);
     let sum = bench_partitions::checksum(rt, Question::Count, &[], &[], slots, LAST, asked);
     line(rt, b"print-count", asked, sum, timed, from)?;
-    let from = clock(rt)?;
+    let from = clock(rt);
     let sum = checksum(
         rt,
         Question::Count,
@@ -197,7 +197,7 @@ fn ask<R: Env + CpuClock + Print>(
     requires { (1 ≤ rows) × (rows < 10000) }
 {
     let total = total(rows);
-    let from = clock(rt)?;
+    let from = clock(rt);
     let sum = checksum(
         rt,
         Question::Stamp,
@@ -210,7 +210,7 @@ fn ask<R: Env + CpuClock + Print>(
         asked,
     );
     table_line(rt, b"c-read-stamp", rows, asked, sum, timed, from)?;
-    let from = clock(rt)?;
+    let from = clock(rt);
     let sum = checksum(
         rt,
         Question::Message,
@@ -223,7 +223,7 @@ fn ask<R: Env + CpuClock + Print>(
         asked,
     );
     table_line(rt, b"c-read-message", rows, asked, sum, timed, from)?;
-    let from = clock(rt)?;
+    let from = clock(rt);
     let sum = checksum(
         rt,
         Question::Encoded,

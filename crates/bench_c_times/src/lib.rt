@@ -67,12 +67,12 @@ fn ask<R: Env + CpuClock + Print>(
     put_offsets(rt, &mut offsets);
     put_numbers(&mut starts, &[0]);
     put_numbers(&mut ends, &[LAST]);
-    let from = clock(rt)?;
+    let from = clock(rt);
     let sum = times_of(
         rt, &moduli, &offsets, &starts, &ends, counts, times, rates, asked,
     );
     table_line(rt, b"c-time-of", rows, asked, sum, timed, from)?;
-    let from = clock(rt)?;
+    let from = clock(rt);
     let sum = counts_at(
         rt,
         &moduli,

@@ -73,7 +73,7 @@ fn bench_table<R: Env + CpuClock + Print>(
     requires le_partitions { (1 ≤ partitions) × (partitions ≤ 9999) }
 {
     let n = bench_text::fill(text, segments, partitions);
-    let from = clock(rt)?;
+    let from = clock(rt);
     let sum = marks(&text[0..n], segments, partitions, asked);
     line(rt, name, asked, sum, timed, from)
 }

@@ -33,13 +33,13 @@ pub fn bench<R: Env + CpuClock + Print>(
     requires { (1 ≤ rows) × (rows < 10000) }
 {
     let total = total(rows);
-    let from = clock(rt)?;
+    let from = clock(rt);
     let sum = checksum(rt, Question::Stamp, starts, ends, slots, total, asked);
     table_line(rt, b"read-stamp", rows, asked, sum, timed, from)?;
-    let from = clock(rt)?;
+    let from = clock(rt);
     let sum = checksum(rt, Question::Message, starts, ends, slots, total, asked);
     table_line(rt, b"read-message", rows, asked, sum, timed, from)?;
-    let from = clock(rt)?;
+    let from = clock(rt);
     let sum = checksum(rt, Question::Encoded, starts, ends, slots, total, asked);
     table_line(rt, b"print-stamp", rows, asked, sum, timed, from)
 }

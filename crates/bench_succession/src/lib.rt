@@ -104,7 +104,7 @@ fn ask<R: Env + CpuClock + Print>(
     horizon_name: &[u8],
 ) -> io::Result<()> {
     let asked = often(timed, 5_000, 100);
-    let from = clock(rt)?;
+    let from = clock(rt);
     let sum = successions(
         rt,
         older_starts,
@@ -120,7 +120,7 @@ fn ask<R: Env + CpuClock + Print>(
         asked,
     );
     line(rt, succeeds_name, asked, sum, timed, from)?;
-    let from = clock(rt)?;
+    let from = clock(rt);
     let sum = horizons(
         rt,
         older_starts,

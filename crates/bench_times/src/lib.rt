@@ -19,10 +19,10 @@ pub fn bench<R: Env + CpuClock + Print>(
     rates: &[u64],
     asked: u64,
 ) -> io::Result<()> {
-    let from = clock(rt)?;
+    let from = clock(rt);
     let sum = marks(rt, messages, TEXT, counts, times, rates, asked);
     line(rt, b"stamp-time-100", asked, sum, timed, from)?;
-    let from = clock(rt)?;
+    let from = clock(rt);
     let sum = marks(rt, messages, MESSAGE, counts, times, rates, asked);
     line(rt, b"message-time-100", asked, sum, timed, from)
 }

@@ -63,7 +63,7 @@ fn bench_dump<R: Env + CpuClock + Print>(
     fill_bytes(dump);
     set_lengths(dump, least, mixed);
     let mut buffer = tail_room();
-    let from = clock(rt)?;
+    let from = clock(rt);
     let sum = walks(&mut buffer, dump, asked);
     line(rt, name, asked, sum, timed, from)
 }
