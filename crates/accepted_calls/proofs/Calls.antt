@@ -1,4 +1,7 @@
 -- Under accepted tables a public call is what follows its checks.
+use Rattle.rules.specs.declared.refusal.Refusal.TheVariants as R
+use Rattle.rules.specs.declared.refusal.Refusal.{Refusal}
+use Rattle.std.specs.Prelude.{Result, Ok, Err}
 use Prim.Native.Nat.{ℕ, ◌+◌, ◌≤◌, ◌<◌}
 use mathlib.Core.Path.{◌≡◌, refl, sym, ap, ◌∙◌}
 use mathlib.Core.List.{List, ◌∷◌, ◌++◌}
@@ -10,23 +13,15 @@ use mir.Facts.{to_z-of_z}
 use borrow.Author.Tests.{le-leb, lt-leb}
 use Rattle.base.proofs.Scans.{nothing}
 use Rattle.rules.specs.declared.Layout.{Layout}
-use Rattle.rules.specs.declared.Refusal.{Refusal}
 use Rattle.rules.specs.declared.Reading.{Reading}
-use Rattle.rules.specs.declared.ReadAnswer.{ReadAnswer}
-use Rattle.rules.specs.declared.ReadAnswer.TheVariants as Reads
-use Rattle.rules.specs.declared.TimeOfCount.{TimeOfCount}
-use Rattle.rules.specs.declared.TimeAnswer.{TimeAnswer}
-use Rattle.rules.specs.declared.TimeAnswer.TheVariants as Times
 use Rattle.rules.specs.declared.TimedStamp.{TimedStamp}
 use Rattle.rules.specs.declared.CountAtTime.{CountAtTime}
-use Rattle.rules.specs.declared.PrintAnswer.{PrintAnswer}
-use Rattle.rules.specs.declared.PrintAnswer.TheVariants as Prints
-use Rattle.rules.specs.Answer.{Answer, answer, refused, refuse, unless, unless_at, numbered, and_then, read_answer, time_answer, print_answer, timed_stamp}
+use Rattle.rules.specs.Answer.{Answer, answer, refused, refuse, unless, unless_at, and_then, as_numbered, answer_of}
 use Rattle.rules.specs.Limits.{most_partitions, most_fields}
 use Rattle.rules.specs.Layout.{moduli_of, offsets_of, product_of, unit_of}
 use Rattle.rules.specs.Partitions.{Partitions, total_of, partitions_fault}
 use Rattle.rules.specs.Segments.{Segments, segments_fault}
-use Rattle.rules.specs.Facts.{LayoutFacts, SegmentsFacts}
+use Rattle.rules.specs.Facts.{SegmentsFacts}
 use Rattle.rules.specs.Accepted.{accepted_stamps, accepted}
 use Rattle.rules.specs.Stamp.{parse_stamp, encode, read_stamp}
 use Rattle.rules.specs.Message.{accepted_message, text_in, read_message}
@@ -42,9 +37,7 @@ use Rattle.encode.specs.Listed.{Listed}
 use Rattle.encode.proofs.Sums.{listed}
 use Rattle.decode.specs.Decodable.{Decodable}
 use Rattle.decode.proofs.Accepted.{decodable, partition_few, count_below}
-use Rattle.message.specs.declared.TextStart.{TextStart}
-use Rattle.message.specs.declared.TextStart.TheVariants as Starts
-use Rattle.message.specs.Part.{text_start, start_in}
+use Rattle.message.specs.Part.{start_in}
 use Rattle.message.proofs.Trailer.{then-accepted, start_refused, start_accepted}
 
 module _ (l : Layout) (p : Partitions) (b : Basis) (f : StampsFacts l p b) where
@@ -63,7 +56,7 @@ module _ (l : Layout) (p : Partitions) (b : Basis) (f : StampsFacts l p b) where
     unfolding unless
     above h = print_next ∙ rw (lt-leb e (total_of p) (rw f.total at h))
 
-    pub print_above : (buffer : List ℕ) → b.total < e → Printed (print_stamp l p e room) (Prints.Refused (numbered 12)) buffer buffer
+    pub print_above : (buffer : List ℕ) → b.total < e → Printed (print_stamp l p e room) (Err R.BeyondTotal) buffer buffer
     unfolding length_printed buffer_after
     print_above buffer h = record { answers = rw (above h); bytes = rw (above h) }
 
@@ -80,7 +73,7 @@ module _ (l : Layout) (p : Partitions) (b : Basis) (f : StampsFacts l p b) where
       pub print_below : (count : ℕ) → count ≡ decoded_in p e (partition_of p e) → count < product_of l
       print_below = count_below (product_of l) p e f.layout.product f.partitions held
 
-      pub print_printed : (partition count : ℕ) → partition ≡ partition_of p e → count ≡ decoded_in p e (partition_of p e) → (r : PrintAnswer) (entry exit : List ℕ)
+      pub print_printed : (partition count : ℕ) → partition ≡ partition_of p e → count ≡ decoded_in p e (partition_of p e) → (r : Result ℕ Refusal) (entry exit : List ℕ)
           → Printed (fitting room (padded 1 (partition + 1) ++ (47 ∷ count_print l count))) r entry exit → Printed (print_stamp l p e room) r entry exit
       unfolding unless stamp_print
       print_printed partition count ep ec r entry exit x = rw (print_next, le-leb e (total_of p) held) (rw (ec, ep) at x)
@@ -121,39 +114,29 @@ module _ (l : Layout) (p : Partitions) (g : Segments) (b : Basis) (f : TableFact
   unfolding count_at
   count_is t x s q = q ∙ rw (to_z-of_z s, f.stamps.unit, f.stamps.total) (table_pass (count_in (unit_of l) (total_of p) g t))
 
-  module _ (s : List ℕ) (a : ReadAnswer) (v : read_answer a ≡ and_then (parse_stamp (moduli_of l) (offsets_of l) s) (encode p)) where
-    was_read : read_answer a ≡ read_stamp l p s
+  module _ (s : List ℕ) (a : Result Reading Refusal) (v : answer_of a ≡ and_then (parse_stamp (moduli_of l) (offsets_of l) s) (encode p)) where
+    was_read : answer_of a ≡ read_stamp l p s
     unfolding read_stamp
     was_read = v ∙ stamps_pass l p b f.stamps _
 
-    pub stamp_out : (k : Refusal) → a ≡ Reads.Refused k → refused k ≡ time_of_stamp l p g s
+    pub stamp_out : (k : Refusal) → a ≡ Err k → refused (as_numbered k) ≡ time_of_stamp l p g s
     unfolding time_of_stamp and_then
-    stamp_out k h = let e : refused k ≡ read_stamp l p s = rw h at was_read in rw (← e)
+    stamp_out k h = let e : refused (as_numbered k) ≡ read_stamp l p s = rw h at was_read in rw (← e)
 
-    pub stamp_timed : (r : Reading) (x : Answer TimedStamp) → a ≡ Reads.Read r → x ≡ with_time r.count (time_in b.unit b.total g r.count) → x ≡ time_of_stamp l p g s
+    pub stamp_timed : (r : Reading) (x : Answer TimedStamp) → a ≡ Ok r → x ≡ with_time r.count (time_in b.unit b.total g r.count) → x ≡ time_of_stamp l p g s
     unfolding time_of_stamp and_then
     stamp_timed r x h q =
         let e : answer r ≡ read_stamp l p s = rw h at was_read in
         rw (← e) (q ∙ ap (with_time r.count) (time_is r.count))
 
-  -- a message, after `text_start` answered r
-  module _ (m : List ℕ) (r : TextStart) (e : text_start r ≡ start_in m) where
+  -- a message, after `answer_of` answered r
+  module _ (m : List ℕ) (r : Result ℕ Refusal) (e : answer_of r ≡ start_in m) where
     guarded : accepted_message m (time_of_stamp l p g (text_in m)) ≡ time_of_message l p g m
     unfolding time_of_message time_of_stamp read_message
     guarded = sym (then-accepted m (read_stamp l p (text_in m)) (λ x. with_time x.count (time_of l p g x.count)))
 
-    pub message_out : (k : Refusal) → r ≡ Starts.Refused k → refused k ≡ time_of_message l p g m
+    pub message_out : (k : Refusal) → r ≡ Err k → refused (as_numbered k) ≡ time_of_message l p g m
     message_out k h = start_refused m r e k _ h ∙ guarded
 
-    pub message_timed : (i : ℕ) (s : List ℕ) (x : Answer TimedStamp) → r ≡ Starts.At i → s ≡ text_in m → x ≡ time_of_stamp l p g s → x ≡ time_of_message l p g m
+    pub message_timed : (i : ℕ) (s : List ℕ) (x : Answer TimedStamp) → r ≡ Ok i → s ≡ text_in m → x ≡ time_of_stamp l p g s → x ≡ time_of_message l p g m
     message_timed i s x h t q = start_accepted m r e i h x _ (q ∙ rw t) ∙ guarded
-
--- an encoded count with its time
-module _ (e : ℕ) (a : TimeAnswer) (x : Answer TimeOfCount) (q : time_answer a ≡ x) where
-  pub time_out : (k : Refusal) → a ≡ Times.Refused k → refused k ≡ with_time e x
-  unfolding with_time and_then
-  time_out k h = rw (← q, h)
-
-  pub time_given : (t : TimeOfCount) → a ≡ Times.Time t → answer (timed_stamp e t.time) ≡ with_time e x
-  unfolding with_time and_then
-  time_given t h = rw (← q, h)

@@ -2,7 +2,6 @@
 #![tactic(auto)]
 
 ghost use Rattle.std.specs.Prelude.{◌≡◌, length};
-ghost use Rattle.rules.specs.Answer.{stamp_answer, count_answer};
 ghost use Rattle.rules.specs.Partitions.{partitions};
 ghost use Rattle.rules.specs.Segments.{segments};
 ghost use Rattle.rules.specs.Print.{print_stamp};
@@ -11,12 +10,13 @@ ghost use Rattle.rules.specs.StampTime.{with_time, time_of_stamp, time_of_messag
 ghost use Rattle.rules.specs.Facts.{SegmentsFacts};
 ghost use Rattle.tables.specs.Accept.{BasisFacts, StampsFacts, TableFacts};
 ghost use Rattle.buffer_print.specs.Printed.{Printed};
+ghost use Rattle.rules.specs.Answer.{answer_of};
 
 use conversion::{count_within, time_within};
 use decode::decode;
-use message::{TextStart, text_part, text_start};
+use message::{text_part, text_start};
 use print::stamp_at;
-use rules::{CountAnswer, Layout, PrintAnswer, ReadAnswer, StampAnswer, TimeAnswer, TimedStamp};
+use rules::{CountAtTime, Layout, Refusal, TimedStamp};
 use tables::Basis;
 use text::stamp_in;
 
@@ -30,15 +30,19 @@ pub fn stamp_time(
     times: &[i64],
     rates: &[u64],
     text: &[u8],
-) -> StampAnswer
+) -> Result<TimedStamp, Refusal>
     requires { TableFacts layout (partitions starts.now ends.now) (segments counts.now times.now rates.now) basis }
-    ensures { stamp_answer result ≡ time_of_stamp layout (partitions starts.now ends.now) (segments counts.now times.now rates.now) text.now }
+    ensures { answer_of result ≡ time_of_stamp layout (partitions starts.now ends.now) (segments counts.now times.now rates.now) text.now }
 {
-    let n = layout.n;
-    match stamp_in(&layout.moduli, &layout.offsets, n, starts, ends, text) {
-        ReadAnswer::Read(r) => timed(basis.unit, basis.total, counts, times, rates, r.count),
-        ReadAnswer::Refused(k) => StampAnswer::Refused(k),
-    }
+    let r = stamp_in(
+        &layout.moduli,
+        &layout.offsets,
+        layout.n,
+        starts,
+        ends,
+        text,
+    )?;
+    timed(basis.unit, basis.total, counts, times, rates, r.count)
 }
 
 // A message likewise.
@@ -51,20 +55,17 @@ pub fn message_time(
     times: &[i64],
     rates: &[u64],
     message: &[u8],
-) -> StampAnswer
+) -> Result<TimedStamp, Refusal>
     requires { TableFacts layout (partitions starts.now ends.now) (segments counts.now times.now rates.now) basis }
-    ensures { stamp_answer result ≡ time_of_message layout (partitions starts.now ends.now) (segments counts.now times.now rates.now) message.now }
+    ensures { answer_of result ≡ time_of_message layout (partitions starts.now ends.now) (segments counts.now times.now rates.now) message.now }
 {
-    match text_start(message) {
-        TextStart::At(start) => {
-            let text = text_part(message, start);
-            stamp_time(layout, basis, starts, ends, counts, times, rates, text)
-        }
-        TextStart::Refused(k) => StampAnswer::Refused(k),
-    }
+    let start = text_start(message)?;
+    let text = text_part(message, start);
+    stamp_time(layout, basis, starts, ends, counts, times, rates, text)
 }
 
 // An encoded count with its time.
+#[tactic(auto, unfolding(rules::specs::StampTime::with_time, rules::specs::Answer::and_then))]
 fn timed(
     unit: u64,
     total: u64,
@@ -72,18 +73,16 @@ fn timed(
     times: &[i64],
     rates: &[u64],
     count: u64,
-) -> StampAnswer
+) -> Result<TimedStamp, Refusal>
     requires basis_facts { BasisFacts unit total }
     requires segments_facts { SegmentsFacts unit total (segments counts.now times.now rates.now) }
-    ensures { stamp_answer result ≡ with_time count (time_in unit total (segments counts.now times.now rates.now) count) }
+    ensures { answer_of result ≡ with_time count (time_in unit total (segments counts.now times.now rates.now) count) }
 {
-    match time_within(unit, total, counts, times, rates, count) {
-        TimeAnswer::Time(t) => StampAnswer::Stamp(TimedStamp {
-            count,
-            time: t.time,
-        }),
-        TimeAnswer::Refused(k) => StampAnswer::Refused(k),
-    }
+    let t = time_within(unit, total, counts, times, rates, count)?;
+    Ok(TimedStamp {
+        count,
+        time: t.time,
+    })
 }
 
 // An encoded count as a stamp, to the front of a lent buffer.
@@ -94,12 +93,12 @@ pub fn stamp_print(
     ends: &[u64],
     encoded: u64,
     buffer: &mut [u8],
-) -> PrintAnswer
+) -> Result<usize, Refusal>
     requires { StampsFacts layout (partitions starts.now ends.now) basis }
     ensures { Printed (print_stamp layout (partitions starts.now ends.now) encoded (length buffer.old)) result buffer.old buffer.new }
 {
     if basis.total < encoded {
-        return PrintAnswer::Refused(refusals::BEYOND_TOTAL);
+        return Err(Refusal::BeyondTotal);
     }
     stamp_at(layout, decode(starts, ends, encoded), buffer)
 }
@@ -114,9 +113,9 @@ pub fn time_count(
     times: &[i64],
     rates: &[u64],
     time: i64,
-) -> CountAnswer
+) -> Result<CountAtTime, Refusal>
     requires { TableFacts layout (partitions starts.now ends.now) (segments counts.now times.now rates.now) basis }
-    ensures { count_answer result ≡ count_at layout (partitions starts.now ends.now) (segments counts.now times.now rates.now) time }
+    ensures { answer_of result ≡ count_at layout (partitions starts.now ends.now) (segments counts.now times.now rates.now) time }
 {
     count_within(basis.unit, basis.total, counts, times, rates, time)
 }

@@ -4,8 +4,9 @@
 ghost use Rattle.std.specs.Prelude.{◌≤◌, ◌<◌, length};
 
 use bench_bytes::{FIELDS, fields, first, put_moduli, put_numbers, put_offsets, returned};
-use bench_partitions::{Question, prepare, slots, total};
-use bench_report::{LAST, clock, layout, line, mixed, next, often, scaled, table_line};
+use bench_partitions::{prepare, slots, total};
+use bench_report::{LAST, ask, ask_table, layout, often, scaled};
+use bench_stamps::mark;
 use std::io;
 use std::rt::{CpuClock, Env};
 
@@ -80,38 +81,38 @@ fn bench_texts<R: Env + CpuClock + Print>(
     slots: &[u8],
     asked: u64,
 ) -> io::Result<()> {
-    let from = clock(rt);
-    let sum = bench_partitions::checksum(rt, Question::Text, &[], &[], slots, LAST, asked);
-    line(rt, b"read-text", asked, sum, timed, from)?;
-    let from = clock(rt);
-    let sum = checksum(
+    ask(
         rt,
-        Question::Text,
-        moduli,
-        offsets,
-        &[],
-        &[],
-        slots,
-        LAST,
+        timed,
+        b"read-text",
         asked,
-    );
-    line(rt, b"c-read-text", asked, sum, timed, from)?;
-    let from = clock(rt);
-    let sum = bench_partitions::checksum(rt, Question::Count, &[], &[], slots, LAST, asked);
-    line(rt, b"print-count", asked, sum, timed, from)?;
-    let from = clock(rt);
-    let sum = checksum(
+        |x| bench_partitions::read_text(rt, slots, x),
+    )?;
+    ask(
         rt,
-        Question::Count,
-        moduli,
-        offsets,
-        &[],
-        &[],
-        slots,
-        LAST,
+        timed,
+        b"c-read-text",
         asked,
-    );
-    line(rt, b"c-print-count", asked, sum, timed, from)
+        |x| read_text(rt, fields(rt, moduli), fields(rt, offsets), slots, x),
+    )?;
+    ask(
+        rt,
+        timed,
+        b"print-count",
+        asked,
+        |x|
+            requires { x < 2147483648 }
+        { bench_partitions::print_count(rt, scaled(x, LAST)) },
+    )?;
+    ask(
+        rt,
+        timed,
+        b"c-print-count",
+        asked,
+        |x|
+            requires { x < 2147483648 }
+        { print_count(rt, fields(rt, moduli), fields(rt, offsets), scaled(x, LAST)) },
+    )
 }
 
 // The first `rows` of the lists become partitions, and the slots their messages.
@@ -170,7 +171,7 @@ fn ask_bytes<R: Env + CpuClock + Print>(
     let mut end_list = [0u8; MOST_BYTES];
     put_numbers(&mut start_list, starts);
     put_numbers(&mut end_list, ends);
-    ask(
+    ask_each(
         rt,
         timed,
         moduli,
@@ -183,7 +184,7 @@ fn ask_bytes<R: Env + CpuClock + Print>(
     )
 }
 
-fn ask<R: Env + CpuClock + Print>(
+fn ask_each<R: Env + CpuClock + Print>(
     rt: &R,
     timed: bool,
     moduli: &[u8],
@@ -197,149 +198,128 @@ fn ask<R: Env + CpuClock + Print>(
     requires { (1 ≤ rows) × (rows < 10000) }
 {
     let total = total(rows);
-    let from = clock(rt);
-    let sum = checksum(
-        rt,
-        Question::Stamp,
-        moduli,
-        offsets,
-        starts,
-        ends,
-        slots,
-        total,
-        asked,
-    );
-    table_line(rt, b"c-read-stamp", rows, asked, sum, timed, from)?;
-    let from = clock(rt);
-    let sum = checksum(
-        rt,
-        Question::Message,
-        moduli,
-        offsets,
-        starts,
-        ends,
-        slots,
-        total,
-        asked,
-    );
-    table_line(rt, b"c-read-message", rows, asked, sum, timed, from)?;
-    let from = clock(rt);
-    let sum = checksum(
-        rt,
-        Question::Encoded,
-        moduli,
-        offsets,
-        starts,
-        ends,
-        slots,
-        total,
-        asked,
-    );
-    table_line(rt, b"c-print-stamp", rows, asked, sum, timed, from)
-}
-
-// The checksum of so many answers. Counts are printed up to `total`.
-pub fn checksum<R: Env>(
-    rt: &R,
-    question: Question,
-    moduli: &[u8],
-    offsets: &[u8],
-    starts: &[u8],
-    ends: &[u8],
-    slots: &[u8],
-    total: u64,
-    asked: u64,
-) -> u64
-    requires { total < 1000000000000 }
-{
-    let mut sum: u64 = 0;
-    let mut x: u64 = 1;
-    let mut k: u64 = 0;
-    while k < asked {
-        x = next(x);
-        let answer = answer(
+    ask_table(rt, timed, b"c-read-stamp", rows, asked, |x| {
+        let bytes = slots::stamp(slots, slots::at(x));
+        read_stamp(
             rt,
-            question,
             fields(rt, moduli),
             fields(rt, offsets),
             starts,
             ends,
-            slots,
-            slots::at(x),
-            scaled(x, total),
-        );
-        sum = mixed(sum, answer);
-        k += 1;
-    }
-    sum
+            bytes,
+        )
+    })?;
+    ask_table(rt, timed, b"c-read-message", rows, asked, |x| {
+        let bytes = slots::message(slots, slots::at(x));
+        read_message(
+            rt,
+            fields(rt, moduli),
+            fields(rt, offsets),
+            starts,
+            ends,
+            bytes,
+        )
+    })?;
+    ask_table(
+        rt,
+        timed,
+        b"c-print-stamp",
+        rows,
+        asked,
+        |x|
+            requires { (x < 2147483648) × (total < 1000000000000) }
+        {
+            let encoded = scaled(x, total);
+            print_stamp(
+                rt,
+                fields(rt, moduli),
+                fields(rt, offsets),
+                starts,
+                ends,
+                encoded,
+            )
+        },
+    )
 }
 
-fn answer<R: Env>(
+fn read_text<R: Env>(rt: &R, moduli: &[u8], offsets: &[u8], slots: &[u8], x: u64) -> u64 {
+    let layout = layout(rt);
+    returned(sclk_c::sclk_read_text(
+        layout.n as u64,
+        u64::from(layout.delimiter),
+        moduli,
+        offsets,
+        slots::text(slots, slots::at(x)),
+    ))
+}
+
+fn read_stamp<R: Env>(
     rt: &R,
-    question: Question,
     moduli: &[u8],
     offsets: &[u8],
     starts: &[u8],
     ends: &[u8],
-    slots: &[u8],
-    at: usize,
-    count: u64,
-) -> u64
-    requires { at < 5120 }
-{
+    bytes: &[u8],
+) -> u64 {
     let layout = layout(rt);
-    let n = layout.n as u64;
-    let delimiter = layout.delimiter as u64;
-    match question {
-        Question::Text => returned(sclk_c::sclk_read_text(
-            n,
-            delimiter,
-            moduli,
-            offsets,
-            slots::text(slots, at),
-        )),
-        Question::Stamp => returned(sclk_c::sclk_read_stamp(
-            n,
-            delimiter,
-            moduli,
-            offsets,
-            starts,
-            ends,
-            slots::stamp(slots, at),
-        )),
-        Question::Message => returned(sclk_c::sclk_read_message(
-            n,
-            delimiter,
-            moduli,
-            offsets,
-            starts,
-            ends,
-            slots::message(slots, at),
-        )),
-        Question::Count => print_count(n, delimiter, moduli, offsets, count),
-        Question::Encoded => print_stamp(n, delimiter, moduli, offsets, starts, ends, count),
-    }
+    returned(sclk_c::sclk_read_stamp(
+        layout.n as u64,
+        u64::from(layout.delimiter),
+        moduli,
+        offsets,
+        starts,
+        ends,
+        bytes,
+    ))
 }
 
-fn print_count(n: u64, delimiter: u64, moduli: &[u8], offsets: &[u8], count: u64) -> u64 {
+fn read_message<R: Env>(
+    rt: &R,
+    moduli: &[u8],
+    offsets: &[u8],
+    starts: &[u8],
+    ends: &[u8],
+    bytes: &[u8],
+) -> u64 {
+    let layout = layout(rt);
+    returned(sclk_c::sclk_read_message(
+        layout.n as u64,
+        u64::from(layout.delimiter),
+        moduli,
+        offsets,
+        starts,
+        ends,
+        bytes,
+    ))
+}
+
+fn print_count<R: Env>(rt: &R, moduli: &[u8], offsets: &[u8], count: u64) -> u64 {
+    let layout = layout(rt);
     let mut buffer = [0u8; 32];
-    let length = sclk_c::sclk_print_count(n, delimiter, moduli, offsets, count, &mut buffer);
-    slots::mark(returned(length) as usize, &buffer)
+    let length = sclk_c::sclk_print_count(
+        layout.n as u64,
+        u64::from(layout.delimiter),
+        moduli,
+        offsets,
+        count,
+        &mut buffer,
+    );
+    mark(returned(length) as usize, &buffer)
 }
 
-fn print_stamp(
-    n: u64,
-    delimiter: u64,
+fn print_stamp<R: Env>(
+    rt: &R,
     moduli: &[u8],
     offsets: &[u8],
     starts: &[u8],
     ends: &[u8],
     encoded: u64,
 ) -> u64 {
+    let layout = layout(rt);
     let mut buffer = [0u8; 32];
     let length = sclk_c::sclk_print_stamp(
-        n,
-        delimiter,
+        layout.n as u64,
+        u64::from(layout.delimiter),
         moduli,
         offsets,
         starts,
@@ -347,5 +327,5 @@ fn print_stamp(
         encoded,
         &mut buffer,
     );
-    slots::mark(returned(length) as usize, &buffer)
+    mark(returned(length) as usize, &buffer)
 }

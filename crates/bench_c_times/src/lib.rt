@@ -4,9 +4,9 @@
 ghost use Rattle.std.specs.Prelude.{◌<◌};
 
 use bench_bytes::{
-    FIELDS, ZERO, fields, first, put_moduli, put_numbers, put_offsets, put_times, returned,
+    FIELDS, fields, first, put_moduli, put_numbers, put_offsets, put_times, returned,
 };
-use bench_report::{LAST, clock, latest, layout, mixed, next, scaled, table_line};
+use bench_report::{LAST, ask_table, latest, layout, scaled};
 use std::io;
 use std::rt::{CpuClock, Env};
 
@@ -29,27 +29,19 @@ pub fn bench<R: Env + CpuClock + Print>(
     put_times(&mut time_list, times);
     put_numbers(&mut rate_list, rates);
     let rows = counts.len();
-    ask(
+    ask_both(
         rt,
         timed,
         first(&count_list, rows),
         first(&time_list, rows),
         first(&rate_list, rows),
         rows as u64,
-        last_of(counts),
+        counts.last().copied().unwrap_or(0),
         asked,
     )
 }
 
-fn last_of(counts: &[u64]) -> u64 {
-    let rows = counts.len();
-    if rows == 0 {
-        return 0;
-    }
-    counts[rows - 1]
-}
-
-fn ask<R: Env + CpuClock + Print>(
+fn ask_both<R: Env + CpuClock + Print>(
     rt: &R,
     timed: bool,
     counts: &[u8],
@@ -67,58 +59,51 @@ fn ask<R: Env + CpuClock + Print>(
     put_offsets(rt, &mut offsets);
     put_numbers(&mut starts, &[0]);
     put_numbers(&mut ends, &[LAST]);
-    let from = clock(rt);
-    let sum = times_of(
-        rt, &moduli, &offsets, &starts, &ends, counts, times, rates, asked,
-    );
-    table_line(rt, b"c-time-of", rows, asked, sum, timed, from)?;
-    let from = clock(rt);
-    let sum = counts_at(
+    ask_table(
         rt,
-        &moduli,
-        &offsets,
-        &starts,
-        &ends,
-        counts,
-        times,
-        rates,
+        timed,
+        b"c-time-of",
+        rows,
         asked,
-        latest(last),
-    );
-    table_line(rt, b"c-count-at", rows, asked, sum, timed, from)
-}
-
-fn times_of<R: Env>(
-    rt: &R,
-    moduli: &[u8],
-    offsets: &[u8],
-    starts: &[u8],
-    ends: &[u8],
-    counts: &[u8],
-    times: &[u8],
-    rates: &[u8],
-    asked: u64,
-) -> u64 {
-    let mut sum: u64 = 0;
-    let mut x: u64 = 1;
-    let mut k: u64 = 0;
-    while k < asked {
-        x = next(x);
-        let answer = time_of(
-            rt,
-            fields(rt, moduli),
-            fields(rt, offsets),
-            starts,
-            ends,
-            counts,
-            times,
-            rates,
-            scaled(x, LAST),
-        );
-        sum = mixed(sum, answer);
-        k += 1;
-    }
-    sum
+        |x|
+            requires { x < 2147483648 }
+        {
+            time_of(
+                rt,
+                fields(rt, &moduli),
+                fields(rt, &offsets),
+                &starts,
+                &ends,
+                counts,
+                times,
+                rates,
+                scaled(x, LAST),
+            )
+        },
+    )?;
+    let most = latest(last);
+    ask_table(
+        rt,
+        timed,
+        b"c-count-at",
+        rows,
+        asked,
+        |x|
+            requires { (x < 2147483648) × (most < 1000000000000) }
+        {
+            count_at(
+                rt,
+                fields(rt, &moduli),
+                fields(rt, &offsets),
+                &starts,
+                &ends,
+                counts,
+                times,
+                rates,
+                scaled(x, most) as i64,
+            )
+        },
+    )
 }
 
 fn time_of<R: Env>(
@@ -136,7 +121,7 @@ fn time_of<R: Env>(
     let mut time = [0u8; 8];
     let answer = sclk_c::sclk_time_of(
         layout.n as u64,
-        layout.delimiter as u64,
+        u64::from(layout.delimiter),
         moduli,
         offsets,
         starts,
@@ -150,51 +135,7 @@ fn time_of<R: Env>(
     if answer != 0 {
         return 0;
     }
-    written(&time)
-}
-
-// The distance of the time written from the least there is.
-fn written(time: &[u8; 8]) -> u64 {
-    if byte_lists::rows(time) == 0 {
-        return 0;
-    }
-    std::num::wrapping_add_u64(byte_lists::number_at(time, 0), ZERO)
-}
-
-fn counts_at<R: Env>(
-    rt: &R,
-    moduli: &[u8],
-    offsets: &[u8],
-    starts: &[u8],
-    ends: &[u8],
-    counts: &[u8],
-    times: &[u8],
-    rates: &[u8],
-    asked: u64,
-    most: u64,
-) -> u64
-    requires { most < 1000000000000 }
-{
-    let mut sum: u64 = 0;
-    let mut x: u64 = 1;
-    let mut k: u64 = 0;
-    while k < asked {
-        x = next(x);
-        let answer = count_at(
-            rt,
-            fields(rt, moduli),
-            fields(rt, offsets),
-            starts,
-            ends,
-            counts,
-            times,
-            rates,
-            scaled(x, most) as i64,
-        );
-        sum = mixed(sum, answer);
-        k += 1;
-    }
-    sum
+    signed::ordinal(i64::from_le_bytes(time))
 }
 
 fn count_at<R: Env>(
@@ -211,7 +152,7 @@ fn count_at<R: Env>(
     let layout = layout(rt);
     returned(sclk_c::sclk_count_at(
         layout.n as u64,
-        layout.delimiter as u64,
+        u64::from(layout.delimiter),
         moduli,
         offsets,
         starts,

@@ -4,7 +4,6 @@
 ghost use Rattle.std.specs.Prelude.{◌≡◌, ◌≤◌, length};
 
 use bench_report::{clock, line, mixed, next, often};
-use kernel_rules::KernelAnswer;
 use rules::Layout;
 use std::io;
 use std::rt::{CpuClock, Env};
@@ -16,9 +15,6 @@ const MOST_PARTITIONS: usize = 10000;
 const MOST_SEGMENTS: usize = 10001;
 
 const CLOCK: i64 = -77;
-
-// The ordinal of the time 0.
-const ZERO: u64 = 0x8000_0000_0000_0000;
 
 type Fields = [u64; Layout::MOST_FIELDS];
 
@@ -74,7 +70,7 @@ fn bench_table<R: Env + CpuClock + Print>(
 {
     let n = bench_text::fill(text, segments, partitions);
     let from = clock(rt);
-    let sum = marks(&text[0..n], segments, partitions, asked);
+    let sum = marks(&text[..n], segments, partitions, asked);
     line(rt, name, asked, sum, timed, from)
 }
 
@@ -90,8 +86,7 @@ fn marks(text: &[u8], segments: u64, partitions: u64, asked: u64) -> u64
     let mut rates = [0u64; MOST_SEGMENTS];
     let mut sum: u64 = 0;
     let mut x: u64 = 1;
-    let mut k: u64 = 0;
-    while k < asked {
+    for _ in 0..asked {
         x = next(x);
         let segment = (x % segments) as usize;
         let partition = (x % partitions) as usize;
@@ -108,7 +103,6 @@ fn marks(text: &[u8], segments: u64, partitions: u64, asked: u64) -> u64
             &mut rates,
         );
         sum = mixed(sum, answer);
-        k += 1;
     }
     sum
 }
@@ -129,32 +123,23 @@ fn mark(
     match kernel::read_kernel(
         text, CLOCK, moduli, offsets, starts, ends, counts, times, rates,
     ) {
-        KernelAnswer::Read(kernel) => {
-            let fields = kernel.n as u64 % 256 * 1_000_003;
-            let sum = std::num::wrapping_add_u64(fields, entry(starts, partition));
-            let sum = std::num::wrapping_add_u64(sum, entry(ends, partition));
-            std::num::wrapping_add_u64(sum, segment_sum(segment, counts, times, rates))
-        }
-        KernelAnswer::Refused(refusal) => refusal.number,
+        Ok(kernel) => (kernel.n as u64 % 256 * 1_000_003)
+            .wrapping_add(entry(starts, partition))
+            .wrapping_add(entry(ends, partition))
+            .wrapping_add(entry(counts, segment))
+            .wrapping_add(entry(rates, segment))
+            .wrapping_add(time_entry(times, segment)),
+        Err(refusal) => refusal.number(),
     }
-}
-
-fn segment_sum(row: usize, counts: &[u64], times: &[i64], rates: &[u64]) -> u64 {
-    let sum = std::num::wrapping_add_u64(entry(counts, row), entry(rates, row));
-    std::num::wrapping_add_u64(sum, time_entry(times, row))
 }
 
 fn entry(list: &[u64], row: usize) -> u64 {
-    if row < list.len() {
-        return list[row];
-    }
-    0
+    list.get(row).copied().unwrap_or(0)
 }
 
 // The time's bits.
 fn time_entry(times: &[i64], row: usize) -> u64 {
-    if row < times.len() {
-        return std::num::wrapping_sub_u64(signed::ordinal(times[row]), ZERO);
-    }
-    0
+    times
+        .get(row)
+        .map_or(0, |time| u64::from_le_bytes(time.to_le_bytes()))
 }

@@ -3,22 +3,13 @@
 
 ghost use Rattle.std.specs.Prelude.{◌*◌, ◌≤◌, ◌<◌, length};
 
-use bench_report::{LAST, clock, layout, mixed, next, scaled, table_line};
-use rules::{PrintAnswer, ReadAnswer};
+use bench_report::{LAST, ask_table, layout, scaled, told};
+use bench_stamps::mark;
+use rules::{Reading, Refusal};
 use std::io;
 use std::rt::{CpuClock, Env};
 
 pub mod slots;
-
-// What is asked: a text, a stamp or a message is read, a count or an encoded count printed.
-#[derive(Clone, Copy)]
-pub enum Question {
-    Text,
-    Stamp,
-    Message,
-    Count,
-    Encoded,
-}
 
 // Stamps and messages under these partitions.
 pub fn bench<R: Env + CpuClock + Print>(
@@ -32,16 +23,43 @@ pub fn bench<R: Env + CpuClock + Print>(
 ) -> io::Result<()>
     requires { (1 ≤ rows) × (rows < 10000) }
 {
+    ask_table(
+        rt,
+        timed,
+        b"read-stamp",
+        rows,
+        asked,
+        |x|
+            requires { x < 2147483648 }
+        {
+            let bytes = slots::stamp(slots, slots::at(x));
+            read(text::read_stamp(layout(rt), starts, ends, bytes))
+        },
+    )?;
+    ask_table(
+        rt,
+        timed,
+        b"read-message",
+        rows,
+        asked,
+        |x|
+            requires { x < 2147483648 }
+        {
+            let bytes = slots::message(slots, slots::at(x));
+            read(message::read_message(layout(rt), starts, ends, bytes))
+        },
+    )?;
     let total = total(rows);
-    let from = clock(rt);
-    let sum = checksum(rt, Question::Stamp, starts, ends, slots, total, asked);
-    table_line(rt, b"read-stamp", rows, asked, sum, timed, from)?;
-    let from = clock(rt);
-    let sum = checksum(rt, Question::Message, starts, ends, slots, total, asked);
-    table_line(rt, b"read-message", rows, asked, sum, timed, from)?;
-    let from = clock(rt);
-    let sum = checksum(rt, Question::Encoded, starts, ends, slots, total, asked);
-    table_line(rt, b"print-stamp", rows, asked, sum, timed, from)
+    ask_table(
+        rt,
+        timed,
+        b"print-stamp",
+        rows,
+        asked,
+        |x|
+            requires { (x < 2147483648) × (total < 1000000000000) }
+        { print_stamp(rt, starts, ends, scaled(x, total)) },
+    )
 }
 
 // The first `rows` of the lists become partitions, and the slots their messages.
@@ -81,100 +99,30 @@ fn fill(starts: &mut [u64], ends: &mut [u64], rows: usize, ticks: u64)
     requires rows_in_bounds { (rows ≤ length starts.old) × (rows ≤ length ends.old) }
 {
     let mut start: u64 = 0;
-    let mut i = 0;
-    while i < rows {
+    for i in 0..rows {
         starts[i] = start;
         ends[i] = start + ticks;
         start += ticks + 1;
-        i += 1;
     }
 }
 
-// The checksum of so many answers. Counts are printed up to `total`.
-pub fn checksum<R: Env>(
-    rt: &R,
-    question: Question,
-    starts: &[u64],
-    ends: &[u64],
-    slots: &[u8],
-    total: u64,
-    asked: u64,
-) -> u64
-    requires { total < 1000000000000 }
-{
-    let mut sum: u64 = 0;
-    let mut x: u64 = 1;
-    let mut k: u64 = 0;
-    while k < asked {
-        x = next(x);
-        let answer = answer(
-            rt,
-            question,
-            starts,
-            ends,
-            slots,
-            slots::at(x),
-            scaled(x, total),
-        );
-        sum = mixed(sum, answer);
-        k += 1;
-    }
-    sum
+// The text of the slot that a question picks.
+pub fn read_text<R: Env>(rt: &R, slots: &[u8], x: u64) -> u64 {
+    read(text::read_text(layout(rt), slots::text(slots, slots::at(x))))
 }
 
-fn answer<R: Env>(
-    rt: &R,
-    question: Question,
-    starts: &[u64],
-    ends: &[u64],
-    slots: &[u8],
-    at: usize,
-    count: u64,
-) -> u64
-    requires { at < 5120 }
-{
-    match question {
-        Question::Text => read(text::read_text(layout(rt), slots::text(slots, at))),
-        Question::Stamp => read(text::read_stamp(
-            layout(rt),
-            starts,
-            ends,
-            slots::stamp(slots, at),
-        )),
-        Question::Message => read(message::read_message(
-            layout(rt),
-            starts,
-            ends,
-            slots::message(slots, at),
-        )),
-        Question::Count => print_count(rt, count),
-        Question::Encoded => print_stamp(rt, starts, ends, count),
-    }
+fn read(answer: Result<Reading, Refusal>) -> u64 {
+    told(answer, |reading| reading.count)
 }
 
-fn read(answer: ReadAnswer) -> u64 {
-    match answer {
-        ReadAnswer::Read(reading) => reading.count,
-        ReadAnswer::Refused(refusal) => refusal.number,
-    }
-}
-
-fn print_count<R: Env>(rt: &R, count: u64) -> u64 {
+pub fn print_count<R: Env>(rt: &R, count: u64) -> u64 {
     let mut buffer = [0u8; 32];
     let printed = print::print_count(layout(rt), count, &mut buffer);
-    slots::mark(length_of(printed), &buffer)
+    mark(printed.unwrap_or(0), &buffer)
 }
 
 fn print_stamp<R: Env>(rt: &R, starts: &[u64], ends: &[u64], encoded: u64) -> u64 {
     let mut buffer = [0u8; 32];
     let printed = print::print_stamp(layout(rt), starts, ends, encoded, &mut buffer);
-    slots::mark(length_of(printed), &buffer)
-}
-
-// 0 where it is refused.
-pub fn length_of(printed: PrintAnswer) -> usize {
-    match printed {
-        PrintAnswer::Length(length) => length,
-        PrintAnswer::Refused(_) => 0,
-    }
+    mark(printed.unwrap_or(0), &buffer)
 }

@@ -2,10 +2,10 @@
 #![tactic(auto)]
 
 use bench_partitions::prepare;
-use bench_report::{LAST, clock, layout, line, mixed, often};
+use bench_report::{LAST, ask, layout, often};
 use std::io;
 use std::rt::{CpuClock, Env};
-use succession_rules::{Failure, HorizonAnswer, SuccessionAnswer};
+use succession_rules::{Succession, TableRefusal};
 
 const PARTITIONS: usize = 9_999;
 
@@ -53,7 +53,7 @@ fn bench_newer<R: Env + CpuClock + Print>(
         SEGMENTS,
         TICKS,
     );
-    ask(
+    ask_both(
         rt,
         timed,
         &older_starts[0..OLDER_PARTITIONS],
@@ -69,7 +69,7 @@ fn bench_newer<R: Env + CpuClock + Print>(
         b"succeeds-longer",
         b"horizon-longer",
     )?;
-    ask(
+    ask_both(
         rt,
         timed,
         &older_starts,
@@ -87,7 +87,7 @@ fn bench_newer<R: Env + CpuClock + Print>(
     )
 }
 
-fn ask<R: Env + CpuClock + Print>(
+fn ask_both<R: Env + CpuClock + Print>(
     rt: &R,
     timed: bool,
     older_starts: &[u64],
@@ -104,179 +104,53 @@ fn ask<R: Env + CpuClock + Print>(
     horizon_name: &[u8],
 ) -> io::Result<()> {
     let asked = often(timed, 5_000, 100);
-    let from = clock(rt);
-    let sum = successions(
+    ask(
         rt,
-        older_starts,
-        older_ends,
-        older_counts,
-        older_times,
-        older_rates,
-        starts,
-        ends,
-        counts,
-        times,
-        rates,
+        timed,
+        succeeds_name,
         asked,
-    );
-    line(rt, succeeds_name, asked, sum, timed, from)?;
-    let from = clock(rt);
-    let sum = horizons(
-        rt,
-        older_starts,
-        older_ends,
-        older_counts,
-        older_times,
-        older_rates,
-        starts,
-        ends,
-        counts,
-        times,
-        rates,
-        asked,
-    );
-    line(rt, horizon_name, asked, sum, timed, from)
-}
-
-fn successions<R: Env>(
-    rt: &R,
-    older_starts: &[u64],
-    older_ends: &[u64],
-    older_counts: &[u64],
-    older_times: &[i64],
-    older_rates: &[u64],
-    starts: &[u64],
-    ends: &[u64],
-    counts: &[u64],
-    times: &[i64],
-    rates: &[u64],
-    asked: u64,
-) -> u64 {
-    let mut sum: u64 = 0;
-    let mut k: u64 = 0;
-    while k < asked {
-        let answer = succeeds(
-            rt,
+        |_| succeeded(succession::succeeds(
+            layout(rt),
             older_starts,
             older_ends,
             older_counts,
             older_times,
             older_rates,
+            layout(rt),
             starts,
             ends,
             counts,
             times,
             rates,
-        );
-        sum = mixed(sum, answer);
-        k += 1;
-    }
-    sum
-}
-
-fn succeeds<R: Env>(
-    rt: &R,
-    older_starts: &[u64],
-    older_ends: &[u64],
-    older_counts: &[u64],
-    older_times: &[i64],
-    older_rates: &[u64],
-    starts: &[u64],
-    ends: &[u64],
-    counts: &[u64],
-    times: &[i64],
-    rates: &[u64],
-) -> u64 {
-    match succession::succeeds(
-        layout(rt),
-        older_starts,
-        older_ends,
-        older_counts,
-        older_times,
-        older_rates,
-        layout(rt),
-        starts,
-        ends,
-        counts,
-        times,
-        rates,
-    ) {
-        SuccessionAnswer::Succeeds => 1,
-        SuccessionAnswer::Fails(failure) => failed(failure),
-        SuccessionAnswer::OlderRefused(refusal) => 0,
-        SuccessionAnswer::NewerRefused(refusal) => 0,
-    }
-}
-
-fn failed(failure: Failure) -> u64 {
-    std::num::wrapping_add_u64(failure.row as u64, 2)
-}
-
-fn horizons<R: Env>(
-    rt: &R,
-    older_starts: &[u64],
-    older_ends: &[u64],
-    older_counts: &[u64],
-    older_times: &[i64],
-    older_rates: &[u64],
-    starts: &[u64],
-    ends: &[u64],
-    counts: &[u64],
-    times: &[i64],
-    rates: &[u64],
-    asked: u64,
-) -> u64 {
-    let mut sum: u64 = 0;
-    let mut k: u64 = 0;
-    while k < asked {
-        let answer = horizon(
-            rt,
+        )),
+    )?;
+    ask(
+        rt,
+        timed,
+        horizon_name,
+        asked,
+        |_| succession::horizon(
+            layout(rt),
             older_starts,
             older_ends,
             older_counts,
             older_times,
             older_rates,
+            layout(rt),
             starts,
             ends,
             counts,
             times,
             rates,
-        );
-        sum = mixed(sum, answer);
-        k += 1;
-    }
-    sum
+        )
+        .unwrap_or(0),
+    )
 }
 
-fn horizon<R: Env>(
-    rt: &R,
-    older_starts: &[u64],
-    older_ends: &[u64],
-    older_counts: &[u64],
-    older_times: &[i64],
-    older_rates: &[u64],
-    starts: &[u64],
-    ends: &[u64],
-    counts: &[u64],
-    times: &[i64],
-    rates: &[u64],
-) -> u64 {
-    match succession::horizon(
-        layout(rt),
-        older_starts,
-        older_ends,
-        older_counts,
-        older_times,
-        older_rates,
-        layout(rt),
-        starts,
-        ends,
-        counts,
-        times,
-        rates,
-    ) {
-        HorizonAnswer::Horizon(count) => count,
-        HorizonAnswer::OlderRefused(refusal) => 0,
-        HorizonAnswer::NewerRefused(refusal) => 0,
+fn succeeded(answer: Result<Succession, TableRefusal>) -> u64 {
+    match answer {
+        Ok(Ok(())) => 1,
+        Ok(Err(failure)) => std::num::wrapping_add_u64(failure.row as u64, 2),
+        Err(_) => 0,
     }
 }

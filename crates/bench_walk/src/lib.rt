@@ -17,16 +17,6 @@ const WALKED: usize = 67_108_864;
 // The shortest packet; the longest has TAIL_ROOM bytes.
 const SHORTEST: usize = 7;
 
-// Where a walk is after a step.
-#[derive(Clone, Copy)]
-struct Turn {
-    sum: u64,
-    tail: usize,
-    at: usize,
-    // Whether the chunk is used up.
-    done: bool,
-}
-
 pub fn bench<R: Env + CpuClock + Print>(rt: &R, timed: bool) -> io::Result<()> {
     let mut dump = dump_room();
     let asked = often(timed, 1_000, 1);
@@ -81,7 +71,7 @@ fn set_lengths(dump: &mut [u8], least: usize, mixed: bool)
         let length = fitting(drawn, dump.len() - at);
         set_length(&mut dump[at..], length);
         at += length;
-        i = std::num::wrapping_add_u64(i, 1);
+        i = i.wrapping_add(1);
     }
 }
 
@@ -118,26 +108,18 @@ fn fitting(length: usize, left: usize) -> usize
 }
 
 fn set_length(packet: &mut [u8], length: usize) {
-    if SHORTEST <= length {
-        set(packet, 4, ((length - SHORTEST) / 256 % 256) as u8);
-        set(packet, 5, ((length - SHORTEST) % 256) as u8);
-    }
-}
-
-fn set(bytes: &mut [u8], at: usize, byte: u8) {
-    if at < bytes.len() {
-        bytes[at] = byte;
+    if SHORTEST <= length && SHORTEST <= packet.len() {
+        packet[4] = ((length - SHORTEST) / 256 % 256) as u8;
+        packet[5] = ((length - SHORTEST) % 256) as u8;
     }
 }
 
 fn walks(buffer: &mut [u8], dump: &[u8], asked: u64) -> u64 {
     let mut sum: u64 = 0;
     let mut x: u64 = 1;
-    let mut k: u64 = 0;
-    while k < asked {
+    for _ in 0..asked {
         x = next(x);
         sum = mixed(sum, walk(buffer, dump, x));
-        k += 1;
     }
     sum
 }
@@ -157,13 +139,11 @@ fn walk(buffer: &mut [u8], dump: &[u8], question: u64) -> u64
             return sum;
         }
         let end = cut(x, at, dump.len(), left);
-        let turn = walk_chunk(buffer, tail, &dump[at..end], sum);
-        sum = turn.sum;
-        tail = turn.tail;
+        (sum, tail) = walk_chunk(buffer, tail, &dump[at..end], sum);
         left -= end - at;
         at = around(end, dump.len());
     }
-    std::num::wrapping_add_u64(sum, tail as u64)
+    sum.wrapping_add(tail as u64)
 }
 
 // Where a chunk ends.
@@ -174,96 +154,51 @@ fn cut(x: u64, at: usize, end: usize, left: usize) -> usize
     ensures upper_bound { (result ≤ at + 65536) × (result - at ≤ left) }
 {
     let size = 1 + (x / 32_768) as usize;
-    let most = lesser(end - at, left);
-    at + lesser(size, most)
-}
-
-fn lesser(a: usize, b: usize) -> usize
-    requires { (0 < a) × (0 < b) }
-    ensures { (0 < result) × (result ≤ a) × (result ≤ b) }
-{
-    if a < b {
-        return a;
-    }
-    b
+    at + size.min(end - at).min(left)
 }
 
 // The place behind a chunk, or the front again.
 fn around(at: usize, end: usize) -> usize {
-    if at == end {
-        return 0;
-    }
-    at
+    if at == end { 0 } else { at }
 }
 
-// Step by step: a step for each byte and one more are enough.
-fn walk_chunk(buffer: &mut [u8], tail: usize, chunk: &[u8], sum: u64) -> Turn
+// Step by step: a step for each byte and one more are enough. The sum and the tail.
+fn walk_chunk(buffer: &mut [u8], before: usize, chunk: &[u8], sum_before: u64) -> (u64, usize)
     requires { length chunk.now ≤ 65536 }
 {
-    let mut turn = Turn {
-        sum,
-        tail,
-        at: 0,
-        done: false,
-    };
-    let mut steps = chunk.len() + 1;
-    while 0 < steps {
-        turn = step(buffer, turn, chunk);
-        if turn.done {
-            return turn;
+    let mut sum = sum_before;
+    let mut tail = before;
+    let mut at = 0;
+    for _ in 0..=chunk.len() {
+        match next_packet(buffer, tail, chunk, at) {
+            Ok(WalkStep::InChunk(span)) => {
+                sum = told(chunk, span.start, span.end, sum);
+                at = span.end;
+            }
+            Ok(WalkStep::InBuffer(joined)) => {
+                sum = told(buffer, 0, joined.length, sum);
+                at = joined.at;
+            }
+            Ok(WalkStep::Tail(length)) => return (sum, length),
+            Err(refusal) => return (refusal.number(), 0),
         }
-        steps -= 1;
+        tail = 0;
     }
-    turn
-}
-
-fn step(buffer: &mut [u8], turn: Turn, chunk: &[u8]) -> Turn {
-    let sum = turn.sum;
-    match next_packet(buffer, turn.tail, chunk, turn.at) {
-        WalkStep::InChunk(span) => found(told(chunk, span.start, span.end, sum), span.end),
-        WalkStep::InBuffer(joined) => found(told(buffer, 0, joined.length, sum), joined.at),
-        WalkStep::Tail(length) => used_up(sum, length),
-        WalkStep::Refused(refusal) => used_up(refusal.number, 0),
-    }
-}
-
-fn found(sum: u64, at: usize) -> Turn {
-    Turn {
-        sum,
-        tail: 0,
-        at,
-        done: false,
-    }
-}
-
-fn used_up(sum: u64, tail: usize) -> Turn {
-    Turn {
-        sum,
-        tail,
-        at: 0,
-        done: true,
-    }
+    (sum, tail)
 }
 
 // The sum with the length of a packet, its first byte, one in the middle and its last.
 fn told(bytes: &[u8], start: usize, end: usize, sum: u64) -> u64 {
-    if end <= start {
-        return sum;
-    }
-    if bytes.len() < end {
+    if end <= start || bytes.len() < end {
         return sum;
     }
     let size = end - start;
-    let first = wide(bytes[start]);
-    let middle = wide(bytes[start + size / 2]);
-    let last = wide(bytes[end - 1]);
+    let first = u64::from(bytes[start]);
+    let middle = u64::from(bytes[start + size / 2]);
+    let last = u64::from(bytes[end - 1]);
     let seen = (first * 65_536 + middle * 256 + last) * 1_048_576;
-    let thrice = std::num::wrapping_add_u64(sum, std::num::wrapping_add_u64(sum, sum));
-    std::num::wrapping_add_u64(thrice, std::num::wrapping_add_u64(seen, size as u64))
-}
-
-fn wide(byte: u8) -> u64
-    ensures { result < 256 }
-{
-    byte as u64
+    sum.wrapping_add(sum)
+        .wrapping_add(sum)
+        .wrapping_add(seen)
+        .wrapping_add(size as u64)
 }

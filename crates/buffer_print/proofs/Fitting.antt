@@ -1,4 +1,6 @@
 -- A print that fits the buffer, and one that does not.
+use Rattle.rules.specs.declared.refusal.Refusal.TheVariants as R
+use Rattle.std.specs.Prelude.{Ok, Err}
 use Prim.Native.Nat.{ℕ, ◌≤◌, ◌<◌}
 use mathlib.Core.Path.{◌≡◌, ◌∙◌}
 use mathlib.Core.List.{List}
@@ -6,8 +8,7 @@ use lib.ListN.{length}
 use native.Mathlib.Omega.{arith}
 use borrow.Author.Tests.{le-leb, lt-leb}
 use Rattle.base.specs.Scans.{product}
-use Rattle.rules.specs.declared.PrintAnswer.TheVariants as Prints
-use Rattle.rules.specs.Answer.{numbered, unless}
+use Rattle.rules.specs.Answer.{unless}
 use Rattle.rules.specs.Print.{fields_print, fitting, length_printed, buffer_after}
 use Rattle.roundtrip.specs.Fields.{AllFields}
 use Rattle.print_order.specs.Order.{fields_length}
@@ -17,7 +18,7 @@ use Rattle.field_print.proofs.Widths.{print_length}
 use Rattle.buffer_print.specs.Printed.{Printed}
 
 module _ (s : List ℕ) (n : ℕ) (long : n ≡ length s) (room : ℕ) where
-  pub print_fits : (start : ℕ) (entry exit : List ℕ) → n ≤ room → Written s n start entry exit → Printed (fitting room s) (Prints.Length n) entry exit
+  pub print_fits : (start : ℕ) (entry exit : List ℕ) → n ≤ room → Written s n start entry exit → Printed (fitting room s) (Ok n) entry exit
   unfolding fitting unless length_printed buffer_after
   print_fits start entry exit h w =
       let fits = le-leb (length s) room (omega arith) in
@@ -27,7 +28,7 @@ module _ (s : List ℕ) (n : ℕ) (long : n ≡ length s) (room : ℕ) where
         bytes = w.bytes ∙ rw (fits, front, put_front);
       }
 
-  pub print_short : (entry : List ℕ) → room < n → Printed (fitting room s) (Prints.Refused (numbered 16)) entry entry
+  pub print_short : (entry : List ℕ) → room < n → Printed (fitting room s) (Err R.BufferTooShort) entry entry
   unfolding fitting unless length_printed buffer_after
   print_short entry h =
       let short = lt-leb (length s) room (omega arith) in
@@ -42,8 +43,8 @@ module _ (ms os : List ℕ) (f : AllFields ms os) (c : ℕ) (below : c < product
   fields_room end b h k = record { before = omega (arith, long); within = k }
 
   pub fields_fit : (start room : ℕ) (entry exit : List ℕ) → n ≤ room → Written (fields_print d c ms os) n start entry exit
-      → Printed (fitting room (fields_print d c ms os)) (Prints.Length n) entry exit
+      → Printed (fitting room (fields_print d c ms os)) (Ok n) entry exit
   fields_fit start room = print_fits (fields_print d c ms os) n long room start
 
-  pub fields_short : (room : ℕ) (entry : List ℕ) → room < n → Printed (fitting room (fields_print d c ms os)) (Prints.Refused (numbered 16)) entry entry
+  pub fields_short : (room : ℕ) (entry : List ℕ) → room < n → Printed (fitting room (fields_print d c ms os)) (Err R.BufferTooShort) entry entry
   fields_short room = print_short (fields_print d c ms os) n long room

@@ -1,10 +1,11 @@
 -- A partition's number and `/` in front of the fields.
+use Rattle.rules.specs.declared.refusal.Refusal.TheVariants as R
+use Rattle.std.specs.Prelude.{Ok, Err}
 use Prim.Native.Nat.{ℕ, ◌+◌, max, ◌≤◌, ◌<◌}
 use mathlib.Core.Path.{◌≡◌, ◌∙◌}
 use mathlib.Core.List.{List, [], ◌∷◌, ◌++◌, append_assoc}
 use lib.ListN.{length, length-append}
 use native.Mathlib.Omega.{arith}
-use Rattle.rules.specs.declared.PrintAnswer.TheVariants as Prints
 use Rattle.rules.specs.Answer.{numbered}
 use Rattle.rules.specs.Print.{digit_count, last_digits, padded, fields_print, fitting}
 use Rattle.decimal.specs.Writing.{Room, Written}
@@ -50,7 +51,7 @@ module _ (number digits : ℕ) (e : digits ≡ digit_count number) where
 
     pub numbered_fit : (at start : ℕ) (b b1 b2 : List ℕ) → digits + 1 + n ≤ length b
         → Written (fields_print d c ms os) (digits + 1 + n) at b b1 → Written (padded 1 number ++ (47 ∷ [])) at start b1 b2
-        → Printed (fitting (length b) (padded 1 number ++ (47 ∷ fields_print d c ms os))) (Prints.Length (digits + 1 + n)) b b2
+        → Printed (fitting (length b) (padded 1 number ++ (47 ∷ fields_print d c ms os))) (Ok (digits + 1 + n)) b b2
     numbered_fit at start b b1 b2 h v u =
         print_fits (padded 1 number ++ (47 ∷ fields_print d c ms os)) (digits + 1 + n) numbered_length (length b) start b b2 h
         (rw slash at (written_append (padded 1 number ++ (47 ∷ [])) (fields_print d c ms os) (digits + 1 + n) at start b b1 b2 room v u))
@@ -62,5 +63,5 @@ module _ (number digits : ℕ) (e : digits ≡ digit_count number) where
         room = rw slash (record { before = omega (arith, numbered_length); within = h })
 
     pub numbered_short : (b : List ℕ) → length b < digits + 1 + n
-        → Printed (fitting (length b) (padded 1 number ++ (47 ∷ fields_print d c ms os))) (Prints.Refused (numbered 16)) b b
+        → Printed (fitting (length b) (padded 1 number ++ (47 ∷ fields_print d c ms os))) (Err R.BufferTooShort) b b
     numbered_short b h = print_short (padded 1 number ++ (47 ∷ fields_print d c ms os)) (digits + 1 + n) numbered_length (length b) b h

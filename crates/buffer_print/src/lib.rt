@@ -10,7 +10,7 @@ ghost use Rattle.decimal.specs.Writing.{Room, Written};
 ghost use Rattle.buffer_print.specs.Printed.{Printed};
 
 use field_print::{fields_length, write_fields};
-use rules::PrintAnswer;
+use rules::Refusal;
 
 // The fields of a count.
 pub fn print_fields(
@@ -19,17 +19,17 @@ pub fn print_fields(
     moduli: &[u64],
     offsets: &[u64],
     buffer: &mut [u8],
-) -> PrintAnswer
+) -> Result<usize, Refusal>
     requires all_fields { AllFields moduli.now offsets.now }
     requires count_bound { count < product moduli.now }
     ensures { Printed (fitting (length buffer.old) (fields_print delimiter count moduli.now offsets.now)) result buffer.old buffer.new }
 {
     let count_bytes = fields_length(moduli, offsets);
     if buffer.len() < count_bytes {
-        return PrintAnswer::Refused(refusals::BUFFER_TOO_SHORT);
+        return Err(Refusal::BufferTooShort);
     }
     write_fields(delimiter, count, moduli, offsets, count_bytes, buffer);
-    PrintAnswer::Length(count_bytes)
+    Ok(count_bytes)
 }
 
 // The partition's number, `/`, and the fields of a count in that partition.
@@ -40,7 +40,7 @@ pub fn print_numbered(
     moduli: &[u64],
     offsets: &[u64],
     buffer: &mut [u8],
-) -> PrintAnswer
+) -> Result<usize, Refusal>
     requires partition_lt_most_partitions { partition < most_partitions }
     requires all_fields { AllFields moduli.now offsets.now }
     requires count_bound { count < product moduli.now }
@@ -50,11 +50,11 @@ pub fn print_numbered(
     let digits = decimal::digit_count(number);
     let stamp_bytes = digits + 1 + fields_length(moduli, offsets);
     if buffer.len() < stamp_bytes {
-        return PrintAnswer::Refused(refusals::BUFFER_TOO_SHORT);
+        return Err(Refusal::BufferTooShort);
     }
     let at = write_fields(delimiter, count, moduli, offsets, stamp_bytes, buffer);
     write_number(number, digits, at, buffer);
-    PrintAnswer::Length(stamp_bytes)
+    Ok(stamp_bytes)
 }
 
 // A partition's number and `/`.

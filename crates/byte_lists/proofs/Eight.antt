@@ -1,6 +1,7 @@
 -- Eight bytes of a list as one number.
 use Rattle.std.proofs.Common.{◌≡◌, ℕ, zero, suc, ◌+◌, ◌*◌, ◌<◌, ◌≤◌, List, [], ◌∷◌, length, get_or, take, drop, sym, refl, ap, ◌∙◌, arith, length-take, drop-cons}
 use lib.ListN.{get_or-eq_default}
+use Rattle.std.specs.Int.{w64, from_le_bytes}
 use Rattle.c_rules.specs.Numbers.{little, numbers}
 
 get_d_take : (n : ℕ) (xs : List ℕ) (i : ℕ) → i < n → get_or (take n xs) i 0 ≡ get_or xs i 0
@@ -28,8 +29,10 @@ eight s k h = sym (
     last : get_or s (k + 7) 0 + 256 * little (take 0 (drop (k + 8) s)) ≡ get_or s (k + 7) 0
     last = omega arith
 
-pub joined_is : (s : List ℕ) (i : ℕ) → 8 * i + 8 ≤ length s → (r : ℕ) → r ≡ get_or s (8 * i) 0 + 256 * (get_or s (8 * i + 1) 0 + 256 * (get_or s (8 * i + 2) 0 + 256 * (get_or s (8 * i + 3) 0 + 256 * (get_or s (8 * i + 4) 0 + 256 * (get_or s (8 * i + 5) 0 + 256 * (get_or s (8 * i + 6) 0 + 256 * get_or s (8 * i + 7) 0)))))) → r ≡ little (take 8 (drop (8 * i) s))
-joined_is s i h r e = e ∙ eight s (8 * i) h
+pub joined_is : (s : List ℕ) (i : ℕ) → 8 * i + 8 ≤ length s → (r : ℕ)
+    → r ≡ from_le_bytes w64 (get_or s (8 * i) 0 ∷ get_or s (8 * i + 1) 0 ∷ get_or s (8 * i + 2) 0 ∷ get_or s (8 * i + 3) 0 ∷ get_or s (8 * i + 4) 0 ∷ get_or s (8 * i + 5) 0 ∷ get_or s (8 * i + 6) 0 ∷ get_or s (8 * i + 7) 0 ∷ [])
+    → r ≡ little (take 8 (drop (8 * i) s))
+joined_is s i h r e = omega (arith, e, eight s (8 * i) h)
 
 -- a slot of the first n
 pub full_slot : (s : List ℕ) (n i : ℕ) → i < n → (r : ℕ) → r ≡ get_or (numbers s) i 0 → r ≡ get_or (take n (numbers s)) i 0

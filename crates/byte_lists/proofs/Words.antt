@@ -1,31 +1,31 @@
--- Two's complement, as the code has it.
-use Rattle.std.proofs.Common.{◌≡◌, ℕ, suc, ◌+◌, ◌-◌, ◌%◌, ◌^◌, ◌<◌, ◌≤◌, ℤ, pos, negsuc, sym, ap, ◌∙◌, arith, to_z-of_z, w64, SFits, to_z, of_z, le-ltb, lt-ltb}
-use mir.Facts.{to_z_pos, to_z-neg}
-use Rattle.base.specs.Signed.{ordinal}
-use Rattle.c_rules.specs.Numbers.{signed_of, unsigned_of}
+-- Two's complement, and a time's eight bytes.
+use Rattle.std.proofs.Common.{◌≡◌, ℕ, suc, ◌-◌, ◌/◌, ◌^◌, List, ◌++◌, ltb, ℤ, pos, negsuc, refl, ap, ◌∙◌, arith, w64, to_z, of_z}
+use Rattle.std.specs.Int.{to_le_bytes}
+use Rattle.base.proofs.Tests.{by_test}
+use Rattle.c_rules.specs.Numbers.{signed_of, unsigned_of, bytes_of, time_bytes}
 
-pub plain : (w : ℕ) → w < 2 ^ 63 → to_z w64 w ≡ signed_of w
+pub signed_is : (w : ℕ) (t : ℤ) → t ≡ to_z w64 w → t ≡ signed_of w
 unfolding signed_of
-plain w h = to_z_pos w64 {n = w} h ∙ sym same
-  where
-    same : signed_of w ≡ pos w
-    same = rw (lt-ltb _ _ h)
+signed_is w t e =
+    let same : 2 ^ 64 - suc w ≡ 2 ^ 64 - 1 - w = omega arith in
+    e ∙ by_test (ltb w (2 ^ 63)) (λ t. rw t) (λ f. rw (f, same))
 
-pub below_zero : (w : ℕ) → w < 2 ^ 64 → 2 ^ 63 ≤ w → to_z w64 (2 ^ 64 - 1 - (2 ^ 64 - 1 - w)) ≡ signed_of w
-unfolding signed_of
-below_zero w h l = ap (to_z w64) bits ∙ to_z-neg w64 (2 ^ 64 - 1 - w) (omega arith) ∙ sym same
-  where
-    bits : 2 ^ 64 - 1 - (2 ^ 64 - 1 - w) ≡ 2 ^ 64 - suc (2 ^ 64 - 1 - w)
-    bits = omega arith
+unsigned_is : (t : ℤ) → of_z w64 t ≡ unsigned_of t
+unfolding unsigned_of
+unsigned_is (pos n) = refl
+unsigned_is (negsuc n) = omega arith
 
-    same : signed_of w ≡ negsuc (2 ^ 64 - 1 - w)
-    same = rw (le-ltb _ _ l)
+bytes_are : (w : ℕ) → to_le_bytes w64 w ≡ bytes_of 8 w
+unfolding bytes_of
+bytes_are w =
+    let e2 : w / 256 / 256 ≡ w / 65_536 = omega arith in
+    let e3 : w / 65_536 / 256 ≡ w / 16_777_216 = omega arith in
+    let e4 : w / 16_777_216 / 256 ≡ w / 4_294_967_296 = omega arith in
+    let e5 : w / 4_294_967_296 / 256 ≡ w / 1_099_511_627_776 = omega arith in
+    let e6 : w / 1_099_511_627_776 / 256 ≡ w / 281_474_976_710_656 = omega arith in
+    let e7 : w / 281_474_976_710_656 / 256 ≡ w / 72_057_594_037_927_936 = omega arith in
+    rw (e2, e3, e4, e5, e6, e7)
 
--- the bits are the ordinal with its top bit turned
-turned : (t : ℤ) → SFits w64 t → (ordinal (2 ^ 63) t + 2 ^ 63) % 2 ^ 64 ≡ unsigned_of t
-unfolding unsigned_of ordinal
-turned (pos n) f = omega (arith, f.sfits)
-turned (negsuc n) f = omega (arith, f.sfits)
-
-pub unsigned_is : (t : ℤ) → SFits w64 t → (o r : ℕ) → o ≡ ordinal (2 ^ 63) (to_z w64 (of_z w64 t)) → r ≡ (o + 2 ^ 63) % 2 ^ 64 → r ≡ unsigned_of t
-unsigned_is t f o r oe re = re ∙ ap (λ (x : ℕ). (x + 2 ^ 63) % 2 ^ 64) (oe ∙ ap (ordinal (2 ^ 63)) (to_z-of_z f)) ∙ turned t f
+pub time_put : (t : ℤ) (rest bytes written : List ℕ) → bytes ≡ to_le_bytes w64 (of_z w64 t) → written ≡ bytes → written ++ rest ≡ time_bytes t ++ rest
+unfolding time_bytes
+time_put t rest bytes written e w = ap (λ (l : List ℕ). l ++ rest) (w ∙ e ∙ bytes_are (of_z w64 t) ∙ ap (bytes_of 8) (unsigned_is t))

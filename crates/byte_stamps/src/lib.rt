@@ -3,61 +3,63 @@
 #![tactic(auto)]
 
 ghost use Rattle.std.specs.Prelude.{◌≡◌, length};
-ghost use Rattle.rules.specs.Answer.{and_then, read_answer, print_answer};
+ghost use Rattle.rules.specs.Answer.{and_then, answer_of};
 ghost use Rattle.rules.specs.Stamp.{encode, read_stamp};
 ghost use Rattle.rules.specs.Message.{read_message};
 ghost use Rattle.rules.specs.Print.{print_stamp, length_printed, buffer_after};
 ghost use Rattle.encode.specs.Listed.{Listed};
-ghost use Rattle.parse.specs.ParsedStamp.{parsed_answer};
+ghost use Rattle.parse.specs.ParsedStamp.{parsed};
 ghost use Rattle.c_rules.specs.Tables.{partitions_from};
 
 use crate::partition::{decode, encode_first, encode_named};
 use byte_tables::accept_stamps;
 use layouts::measure;
-use message::{TextStart, text_part, text_start};
+use message::{text_part, text_start};
 use parse::ParsedStamp;
 use print::stamp_at;
-use rules::{Layout, PrintAnswer, ReadAnswer};
-use tables::Acceptance;
-use text::{as_reading, parsed_in};
+use rules::{Layout, Reading, Refusal};
+use text::parsed_in;
 
 pub mod partition;
 
 // Text with a partition in front or without one.
-pub fn read_stamp(layout: Layout, starts: &[u8], ends: &[u8], text: &[u8]) -> ReadAnswer
-    ensures { read_answer result ≡ read_stamp layout (partitions_from starts.now ends.now) text.now }
+pub fn read_stamp(
+    layout: Layout,
+    starts: &[u8],
+    ends: &[u8],
+    text: &[u8],
+) -> Result<Reading, Refusal>
+    ensures { answer_of result ≡ read_stamp layout (partitions_from starts.now ends.now) text.now }
 {
-    let n = layout.n;
-    match accept_stamps(measure(layout), starts, ends) {
-        Acceptance::Accepted(_) => encode_parsed(
-            starts,
-            ends,
-            parsed_in(&layout.moduli, &layout.offsets, n, text),
-        ),
-        Acceptance::Refused(k) => ReadAnswer::Refused(k),
-    }
+    accept_stamps(measure(layout), starts, ends)?;
+    let stamp = parsed_in(&layout.moduli, &layout.offsets, layout.n, text)?;
+    encode_parsed(starts, ends, stamp)
 }
 
 // A message to its stamp's encoded count.
-pub fn read_message(layout: Layout, starts: &[u8], ends: &[u8], message: &[u8]) -> ReadAnswer
-    ensures { read_answer result ≡ read_message layout (partitions_from starts.now ends.now) message.now }
+pub fn read_message(
+    layout: Layout,
+    starts: &[u8],
+    ends: &[u8],
+    message: &[u8],
+) -> Result<Reading, Refusal>
+    ensures { answer_of result ≡ read_message layout (partitions_from starts.now ends.now) message.now }
 {
-    match text_start(message) {
-        TextStart::At(start) => read_stamp(layout, starts, ends, text_part(message, start)),
-        TextStart::Refused(k) => ReadAnswer::Refused(k),
-    }
+    let start = text_start(message)?;
+    read_stamp(layout, starts, ends, text_part(message, start))
 }
 
 // In the partition named, or in the first that holds the count.
-fn encode_parsed(starts: &[u8], ends: &[u8], parsed: ParsedStamp) -> ReadAnswer
+#[tactic(auto, unfolding(rules::specs::Stamp::encode, rules::specs::Answer::and_then))]
+fn encode_parsed(starts: &[u8], ends: &[u8], stamp: ParsedStamp) -> Result<Reading, Refusal>
     requires { Listed (partitions_from starts.now ends.now) }
-    ensures { read_answer result ≡ and_then (parsed_answer parsed) (encode (partitions_from starts.now ends.now)) }
+    ensures { answer_of result ≡ encode (partitions_from starts.now ends.now) (parsed stamp) }
 {
-    match parsed {
-        ParsedStamp::Named(number, c) => as_reading(encode_named(starts, ends, number, c.count)),
-        ParsedStamp::Unnamed(c) => as_reading(encode_first(starts, ends, c.count)),
-        ParsedStamp::Refused(k) => ReadAnswer::Refused(k),
-    }
+    let count = match stamp {
+        ParsedStamp::Named(number, c) => encode_named(starts, ends, number, c.count)?,
+        ParsedStamp::Unnamed(c) => encode_first(starts, ends, c.count)?,
+    };
+    Ok(Reading { count })
 }
 
 // Prints an encoded count up to the total as a stamp.
@@ -67,17 +69,13 @@ pub fn print_stamp(
     ends: &[u8],
     encoded: u64,
     buffer: &mut [u8],
-) -> PrintAnswer
-    ensures result_value { print_answer result ≡ length_printed (print_stamp layout (partitions_from starts.now ends.now) encoded (length buffer.old)) }
+) -> Result<usize, Refusal>
+    ensures result_value { answer_of result ≡ length_printed (print_stamp layout (partitions_from starts.now ends.now) encoded (length buffer.old)) }
     ensures buffer_after { buffer.new ≡ buffer_after (print_stamp layout (partitions_from starts.now ends.now) encoded (length buffer.old)) buffer.old }
 {
-    match accept_stamps(measure(layout), starts, ends) {
-        Acceptance::Accepted(basis) => {
-            if basis.total < encoded {
-                return PrintAnswer::Refused(refusals::BEYOND_TOTAL);
-            }
-            stamp_at(layout, decode(starts, ends, encoded), buffer)
-        }
-        Acceptance::Refused(k) => PrintAnswer::Refused(k),
+    let basis = accept_stamps(measure(layout), starts, ends)?;
+    if basis.total < encoded {
+        return Err(Refusal::BeyondTotal);
     }
+    stamp_at(layout, decode(starts, ends, encoded), buffer)
 }

@@ -4,56 +4,50 @@ ghost use Rattle.rules.specs.Partitions.{lengths_before};
 ghost use Rattle.rules.specs.Stamp.{encode_named, encode_first};
 ghost use Rattle.rules.specs.Print.{partition_of, decoded_in};
 ghost use Rattle.encode.specs.Listed.{Listed};
-ghost use Rattle.encode.specs.Encoded.{encoded_answer};
 ghost use Rattle.decode.specs.Decodable.{Decodable};
 ghost use Rattle.c_rules.specs.Numbers.{numbers};
 ghost use Rattle.c_rules.specs.Tables.{partitions_from};
+ghost use Rattle.rules.specs.Answer.{answer_of};
 
 use byte_lists::{number_at, rows};
 use decode::Decoded;
-use encode::{Encoded, is_within};
+use encode::is_within;
+use rules::Refusal;
 use wide::less;
 
 // In the first partition that holds the count.
-pub fn encode_first(starts: &[u8], ends: &[u8], count: u64) -> Encoded
+pub fn encode_first(starts: &[u8], ends: &[u8], count: u64) -> Result<u64, Refusal>
     requires { Listed (partitions_from starts.now ends.now) }
-    ensures { encoded_answer result ≡ encode_first (partitions_from starts.now ends.now) count }
+    ensures { answer_of result ≡ encode_first (partitions_from starts.now ends.now) count }
 {
-    let n = rows(starts);
     let mut before: u64 = 0;
-    let mut i = 0;
-    while i < n {
+    for i in 0..rows(starts) {
         let start = number_at(starts, i);
         let end = number_at(ends, i);
         if is_within(start, end, count) {
-            return Encoded::Count(before + (count - start));
+            return Ok(before + (count - start));
         }
         before += end - start;
-        i += 1;
     }
-    Encoded::Refused(refusals::OUTSIDE_PARTITION)
+    Err(Refusal::OutsidePartition)
 }
 
 // In the partition of the number given; partitions are numbered from 1.
-pub fn encode_named(starts: &[u8], ends: &[u8], number: u64, count: u64) -> Encoded
+#[tactic(auto, unfolding(rules::specs::Stamp::encode_named, rules::specs::Answer::unless))]
+pub fn encode_named(starts: &[u8], ends: &[u8], number: u64, count: u64) -> Result<u64, Refusal>
     requires { Listed (partitions_from starts.now ends.now) }
-    ensures { encoded_answer result ≡ encode_named (partitions_from starts.now ends.now) number count }
+    ensures { answer_of result ≡ encode_named (partitions_from starts.now ends.now) number count }
 {
-    if number < 1 {
-        return Encoded::Refused(refusals::NO_SUCH_PARTITION);
-    }
-    let n = rows(starts);
-    if (n as u64) < number {
-        return Encoded::Refused(refusals::NO_SUCH_PARTITION);
+    if number < 1 || (rows(starts) as u64) < number {
+        return Err(Refusal::NoSuchPartition);
     }
     let i = (number - 1) as usize;
     let start = number_at(starts, i);
-    let end = number_at(ends, i);
-    if is_within(start, end, count) {
+    if is_within(start, number_at(ends, i), count) {
         let before = lengths_before(starts, ends, i);
-        return Encoded::Count(before + (count - start));
+        return Ok(before + (count - start));
     }
-    Encoded::Refused(refusals::OUTSIDE_PARTITION)
+    Err(Refusal::OutsidePartition)
 }
 
 // The lengths of the partitions before this row, added up.
@@ -63,11 +57,9 @@ fn lengths_before(starts: &[u8], ends: &[u8], row: usize) -> u64
     ensures { result ≡ lengths_before (partitions_from starts.now ends.now) row }
 {
     let mut before: u64 = 0;
-    let mut i = 0;
-    while i < row {
+    for i in 0..row {
         // Compared before it is subtracted, a start is read as one word.
         before += less(number_at(ends, i), number_at(starts, i));
-        i += 1;
     }
     before
 }
@@ -78,13 +70,11 @@ pub fn decode(starts: &[u8], ends: &[u8], encoded: u64) -> Decoded
     ensures partition_value { result.partition ≡ partition_of (partitions_from starts.now ends.now) encoded }
     ensures count_value { result.count ≡ decoded_in (partitions_from starts.now ends.now) encoded (partition_of (partitions_from starts.now ends.now) encoded) }
 {
-    let n = rows(starts);
-    let mut i = 0;
+    let last = rows(starts) - 1;
     let mut before = 0;
-    while i + 1 < n {
+    for i in 0..last {
         let start = number_at(starts, i);
-        let end = number_at(ends, i);
-        let next = before + (end - start);
+        let next = before + (number_at(ends, i) - start);
         if encoded < next {
             return Decoded {
                 partition: i,
@@ -92,11 +82,9 @@ pub fn decode(starts: &[u8], ends: &[u8], encoded: u64) -> Decoded
             };
         }
         before = next;
-        i += 1;
     }
-    let start = number_at(starts, i);
     Decoded {
-        partition: i,
-        count: start + (encoded - before),
+        partition: last,
+        count: number_at(starts, last) + (encoded - before),
     }
 }

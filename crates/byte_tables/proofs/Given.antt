@@ -1,6 +1,6 @@
 -- The layout that numbers and two lists in bytes make, and a row of segments that lie in bytes.
 use Prim.Native.Nat.{ℕ, zero, suc, ◌+◌, ◌≤◌, ◌<◌, min}
-use mathlib.Core.Path.{◌≡◌, refl, sym, ◌∙◌}
+use mathlib.Core.Path.{◌≡◌, refl, sym}
 use mathlib.Core.List.{List, [], ◌∷◌}
 use mathlib.Core.Bool.{Bool, true, false, not}
 use lib.Dec.{leb}
@@ -11,9 +11,8 @@ use mir.Syntax.{w64}
 use mir.Val.{SFits, to_z, of_z}
 use mir.Facts.{to_z-of_z}
 use native.Mathlib.Omega.{arith}
-use borrow.Author.Tests.{le-leb}
 use Rattle.base.specs.Scans.{all, product}
-use Rattle.rules.specs.Limits.{most_fields, last_delimiter, largest_offset, largest_msf}
+use Rattle.rules.specs.Limits.{most_fields, largest_offset, largest_msf}
 use Rattle.rules.specs.Answer.{Answer, refuse}
 use Rattle.layouts.specs.declared.Measured.{Measured}
 use Rattle.layouts.specs.Measure.{measure_of, head_ok, measured_by}
@@ -21,35 +20,10 @@ use Rattle.layouts.proofs.Slots.{product_of_slots}
 use Rattle.layouts.proofs.Measuring.{some_fields, few_fields, bad_head, large_offset, moduli_measured}
 use Rattle.rules.specs.Segments.{row_of}
 use Rattle.segments.specs.Rows.{RowIn}
-use Rattle.c_rules.specs.Numbers.{numbers_in, numbers, times}
+use Rattle.c_rules.specs.Numbers.{numbers, times}
 use Rattle.c_rules.specs.Tables.{slots, fields_given, code_given, layout_from, segments_from}
 use Rattle.c_rules.proofs.Bytes.{length_numbers}
-use Rattle.c_rules.proofs.Slots.{moduli_enough, offsets_enough, under_moduli, under_offsets, moduli_are, offsets_are, no_code}
-
-pub above_codes : (d : ℕ) → last_delimiter < d → 0 ≡ code_given d
-above_codes d h = sym (no_code d h)
-
-pub a_code : (d : ℕ) → d ≤ last_delimiter → d ≡ code_given d
-unfolding code_given
-a_code d h = rw (le-leb d last_delimiter h)
-
-module _ (n : ℕ) (moduli offsets : List ℕ) (a : ℕ) (ae : a ≡ length (numbers moduli)) where
-  many_moduli : a ≡ numbers_in moduli
-  many_moduli = ae ∙ length_numbers moduli
-
-  pub few_moduli : a < n → 0 ≡ fields_given n moduli offsets
-  few_moduli h = sym (under_moduli n moduli offsets (rw many_moduli at h))
-
-  module _ (enough : n ≤ a) (b : ℕ) (be : b ≡ length (numbers offsets)) where
-    many_offsets : b ≡ numbers_in offsets
-    many_offsets = be ∙ length_numbers offsets
-
-    pub few_offsets : b < n → 0 ≡ fields_given n moduli offsets
-    few_offsets h = sym (under_offsets n moduli offsets (rw many_offsets at h))
-
-    pub all_fields : n ≤ b → n ≡ fields_given n moduli offsets
-    unfolding fields_given
-    all_fields h = rw (← many_moduli, ← many_offsets, le-leb n a enough, le-leb n b h)
+use Rattle.c_rules.proofs.Slots.{moduli_enough, offsets_enough, moduli_are, offsets_are}
 
 -- no more fields than a list has numbers
 module _ (n : ℕ) (moduli offsets : List ℕ) (k : ℕ) (ke : k ≡ fields_given n moduli offsets) where

@@ -3,110 +3,112 @@
 #![tactic(auto)]
 
 ghost use Rattle.std.specs.Prelude.{◌≡◌, ◌≤◌};
-ghost use Rattle.rules.specs.Answer.{and_then};
+ghost use Rattle.rules.specs.Answer.{and_then, answer_of};
 ghost use Rattle.rules.specs.Segments.{row_of};
-ghost use Rattle.layouts.specs.Measure.{measure_answer, InLimits};
-ghost use Rattle.partitions.specs.Total.{total_answer, accepted_total};
-ghost use Rattle.segments.specs.Rows.{check_answer, accepted_segments, RowIn};
-ghost use Rattle.tables.specs.Accept.{acceptance, stamps_basis, table_basis};
+ghost use Rattle.layouts.specs.Measure.{InLimits};
+ghost use Rattle.partitions.specs.Total.{accepted_total};
+ghost use Rattle.segments.specs.Rows.{accepted_segments, RowIn};
+ghost use Rattle.tables.specs.Accept.{stamps_basis, table_basis};
 ghost use Rattle.c_rules.specs.Tables.{partitions_from, segments_from};
 
 use byte_lists::{number_at, rows, time_at};
-use layouts::MeasureAnswer;
-use partitions::TotalAnswer;
-use rules::Segment;
-use segments::CheckAnswer;
+use layouts::Measured;
+use rules::{Refusal, Segment};
 use segments::row::{grows, last_row_ok, row_ok};
-use tables::{Acceptance, Basis};
+use tables::Basis;
 
 pub mod layout;
 
 // Layout and partitions.
-pub fn accept_stamps(measured: MeasureAnswer, starts: &[u8], ends: &[u8]) -> Acceptance
-    ensures { acceptance result ≡ and_then (measure_answer measured) (stamps_basis (partitions_from starts.now ends.now)) }
+#[tactic(auto, unfolding(tables::specs::Accept::stamps_basis, partitions::specs::Total::accepted_total, rules::specs::Answer::and_then, rules::specs::Answer::unless_at))]
+pub fn accept_stamps(
+    measured: Result<Measured, Refusal>,
+    starts: &[u8],
+    ends: &[u8],
+) -> Result<Basis, Refusal>
+    ensures { answer_of result ≡ and_then (answer_of measured) (stamps_basis (partitions_from starts.now ends.now)) }
 {
-    match measured {
-        MeasureAnswer::Accepted(m) => match check_partitions(m.product, starts, ends) {
-            TotalAnswer::Total(total) => Acceptance::Accepted(Basis {
-                unit: m.unit,
-                total,
-            }),
-            TotalAnswer::Refused(k) => Acceptance::Refused(k),
-        },
-        MeasureAnswer::Refused(k) => Acceptance::Refused(k),
-    }
+    let m = measured?;
+    let total = check_partitions(m.product, starts, ends)?;
+    Ok(Basis {
+        unit: m.unit,
+        total,
+    })
 }
 
 // Layout, partitions and segments.
+#[tactic(auto, unfolding(tables::specs::Accept::table_basis, segments::specs::Rows::accepted_segments, rules::specs::Answer::and_then, rules::specs::Answer::unless_at))]
 pub fn accept(
-    measured: MeasureAnswer,
+    measured: Result<Measured, Refusal>,
     starts: &[u8],
     ends: &[u8],
     counts: &[u8],
     times: &[u8],
     rates: &[u8],
-) -> Acceptance
+) -> Result<Basis, Refusal>
     requires { InLimits measured }
-    ensures { acceptance result ≡ and_then (measure_answer measured) (table_basis (partitions_from starts.now ends.now) (segments_from counts.now times.now rates.now)) }
+    ensures { answer_of result ≡ and_then (answer_of measured) (table_basis (partitions_from starts.now ends.now) (segments_from counts.now times.now rates.now)) }
 {
-    match accept_stamps(measured, starts, ends) {
-        Acceptance::Accepted(b) => match check_segments(b.unit, b.total, counts, times, rates) {
-            CheckAnswer::Accepted => Acceptance::Accepted(b),
-            CheckAnswer::Refused(k) => Acceptance::Refused(k),
-        },
-        Acceptance::Refused(k) => Acceptance::Refused(k),
-    }
+    let b = accept_stamps(measured, starts, ends)?;
+    check_segments(b.unit, b.total, counts, times, rates)?;
+    Ok(b)
 }
 
-fn check_partitions(product: u64, starts: &[u8], ends: &[u8]) -> TotalAnswer
-    ensures { total_answer result ≡ accepted_total product (partitions_from starts.now ends.now) }
+fn check_partitions(product: u64, starts: &[u8], ends: &[u8]) -> Result<u64, Refusal>
+    ensures { answer_of result ≡ accepted_total product (partitions_from starts.now ends.now) }
 {
     let n = rows(starts);
     let m = rows(ends);
     if !partitions::lengths_ok(n, m) {
-        return TotalAnswer::Refused(refusals::partitions(partitions::shortest(n, m)));
+        return Err(Refusal::Partitions {
+            row: partitions::shortest(n, m),
+        });
     }
     let mut total: u64 = 0;
-    let mut i = 0;
-    while i < n {
+    for i in 0..n {
         let start = number_at(starts, i);
         let end = number_at(ends, i);
         if !partitions::row_ok(product, total, start, end) {
-            return TotalAnswer::Refused(refusals::partitions(i));
+            return Err(Refusal::Partitions { row: i });
         }
         total += end - start;
-        i += 1;
     }
-    TotalAnswer::Total(total)
+    Ok(total)
 }
 
-fn check_segments(unit: u64, total: u64, counts: &[u8], times: &[u8], rates: &[u8]) -> CheckAnswer
+fn check_segments(
+    unit: u64,
+    total: u64,
+    counts: &[u8],
+    times: &[u8],
+    rates: &[u8],
+) -> Result<(), Refusal>
     requires { 1 ≤ unit }
-    ensures { check_answer result ≡ accepted_segments unit total (segments_from counts.now times.now rates.now) }
+    ensures { answer_of result ≡ accepted_segments unit total (segments_from counts.now times.now rates.now) }
 {
     let n = rows(counts);
     let m = rows(times);
     let k = rows(rates);
     if !segments::lengths_ok(n, m, k) {
-        return CheckAnswer::Refused(refusals::segments(segments::shortest(n, m, k)));
+        return Err(Refusal::Segments {
+            row: segments::shortest(n, m, k),
+        });
     }
     let last = n - 1;
-    let mut i = 0;
-    while i < last {
+    for i in 0..last {
         let row = row_at(counts, times, rates, i);
         let next = row_at(counts, times, rates, i + 1);
         if !row_ok(unit, row, next.count) {
-            return CheckAnswer::Refused(refusals::segments(i));
+            return Err(Refusal::Segments { row: i });
         }
         if !grows(row, next) {
-            return CheckAnswer::Refused(refusals::segments(i + 1));
+            return Err(Refusal::Segments { row: i + 1 });
         }
-        i += 1;
     }
     if !last_row_ok(unit, row_at(counts, times, rates, last), total) {
-        return CheckAnswer::Refused(refusals::segments(last));
+        return Err(Refusal::Segments { row: last });
     }
-    CheckAnswer::Accepted
+    Ok(())
 }
 
 // Row `i` of the lists.

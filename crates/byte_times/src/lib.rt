@@ -3,7 +3,6 @@
 #![tactic(auto)]
 
 ghost use Rattle.std.specs.Prelude.{◌≡◌};
-ghost use Rattle.rules.specs.Answer.{time_answer, count_answer};
 ghost use Rattle.rules.specs.Facts.{SegmentsFacts};
 ghost use Rattle.rules.specs.Time.{segment_of, segment_at, time_in, count_in, time_of, count_at};
 ghost use Rattle.tables.specs.Accept.{BasisFacts};
@@ -13,16 +12,17 @@ ghost use Rattle.conversion.specs.LastCount.{HasCount, last_count};
 ghost use Rattle.c_rules.specs.Numbers.{numbers};
 ghost use Rattle.c_rules.specs.Numbers.{times as times_in};
 ghost use Rattle.c_rules.specs.Tables.{layout_from, partitions_from, segments_from};
+ghost use Rattle.rules.specs.Answer.{answer_of};
 
 use byte_lists::{number_at, rows, time_at};
 use byte_tables::layout::measure_of;
 use byte_tables::{accept, row_at};
 use conversion::{count_of_row, in_range, time_of_row};
-use rules::{CountAnswer, TimeAnswer};
-use segment_search::{Found, last_of};
-use tables::Acceptance;
+use rules::{CountAtTime, Refusal, TimeOfCount};
+use segment_search::last_of;
 
 // The time of an encoded count.
+#[tactic(auto, using(layouts::proofs::Units::measured_in_limits))]
 pub fn time_of(
     n: u64,
     delimiter: u64,
@@ -34,17 +34,22 @@ pub fn time_of(
     times: &[u8],
     rates: &[u8],
     encoded: u64,
-) -> TimeAnswer
-    ensures { time_answer result ≡ time_of (layout_from n delimiter moduli.now offsets.now) (partitions_from starts.now ends.now) (segments_from counts.now times.now rates.now) encoded }
+) -> Result<TimeOfCount, Refusal>
+    ensures { answer_of result ≡ time_of (layout_from n delimiter moduli.now offsets.now) (partitions_from starts.now ends.now) (segments_from counts.now times.now rates.now) encoded }
 {
-    let measured = measure_of(n, delimiter, moduli, offsets);
-    match accept(measured, starts, ends, counts, times, rates) {
-        Acceptance::Accepted(b) => time_within(b.unit, b.total, counts, times, rates, encoded),
-        Acceptance::Refused(k) => TimeAnswer::Refused(k),
-    }
+    let b = accept(
+        measure_of(n, delimiter, moduli, offsets),
+        starts,
+        ends,
+        counts,
+        times,
+        rates,
+    )?;
+    time_within(b.unit, b.total, counts, times, rates, encoded)
 }
 
 // The count at a time.
+#[tactic(auto, using(layouts::proofs::Units::measured_in_limits))]
 pub fn count_at(
     n: u64,
     delimiter: u64,
@@ -56,14 +61,18 @@ pub fn count_at(
     times: &[u8],
     rates: &[u8],
     time: i64,
-) -> CountAnswer
-    ensures { count_answer result ≡ count_at (layout_from n delimiter moduli.now offsets.now) (partitions_from starts.now ends.now) (segments_from counts.now times.now rates.now) time }
+) -> Result<CountAtTime, Refusal>
+    ensures { answer_of result ≡ count_at (layout_from n delimiter moduli.now offsets.now) (partitions_from starts.now ends.now) (segments_from counts.now times.now rates.now) time }
 {
-    let measured = measure_of(n, delimiter, moduli, offsets);
-    match accept(measured, starts, ends, counts, times, rates) {
-        Acceptance::Accepted(b) => count_within(b.unit, b.total, counts, times, rates, time),
-        Acceptance::Refused(k) => CountAnswer::Refused(k),
-    }
+    let b = accept(
+        measure_of(n, delimiter, moduli, offsets),
+        starts,
+        ends,
+        counts,
+        times,
+        rates,
+    )?;
+    count_within(b.unit, b.total, counts, times, rates, time)
 }
 
 fn time_within(
@@ -73,17 +82,17 @@ fn time_within(
     times: &[u8],
     rates: &[u8],
     e: u64,
-) -> TimeAnswer
+) -> Result<TimeOfCount, Refusal>
     requires basis_facts { BasisFacts unit total }
     requires segments_facts { SegmentsFacts unit total (segments_from counts.now times.now rates.now) }
-    ensures { time_answer result ≡ time_in unit total (segments_from counts.now times.now rates.now) e }
+    ensures { answer_of result ≡ time_in unit total (segments_from counts.now times.now rates.now) e }
 {
     if total < e {
-        return TimeAnswer::Refused(refusals::BEYOND_TOTAL);
+        return Err(Refusal::BeyondTotal);
     }
     match row_of_count(counts, e) {
-        Found::Row(i) => TimeAnswer::Time(time_of_row(unit, row_at(counts, times, rates, i), e)),
-        Found::Nothing => TimeAnswer::Refused(refusals::BEFORE_FIRST_SEGMENT),
+        Some(i) => Ok(time_of_row(unit, row_at(counts, times, rates, i), e)),
+        None => Err(Refusal::BeforeFirstSegment),
     }
 }
 
@@ -94,27 +103,27 @@ fn count_within(
     times: &[u8],
     rates: &[u8],
     t: i64,
-) -> CountAnswer
+) -> Result<CountAtTime, Refusal>
     requires basis_facts { BasisFacts unit total }
     requires segments_facts { SegmentsFacts unit total (segments_from counts.now times.now rates.now) }
-    ensures { count_answer result ≡ count_in unit total (segments_from counts.now times.now rates.now) t }
+    ensures { answer_of result ≡ count_in unit total (segments_from counts.now times.now rates.now) t }
 {
     if !in_range(t) {
-        return CountAnswer::Refused(refusals::TIME_OUT_OF_RANGE);
+        return Err(Refusal::TimeOutOfRange);
     }
     match row_of_time(times, t) {
-        Found::Row(i) => count_of_row(
+        Some(i) => count_of_row(
             unit,
             total,
             row_at(counts, times, rates, i),
             last_count(counts, i),
             t,
         ),
-        Found::Nothing => CountAnswer::Refused(refusals::BEFORE_FIRST_SEGMENT),
+        None => Err(Refusal::BeforeFirstSegment),
     }
 }
 
-fn row_of_count(counts: &[u8], e: u64) -> Found
+fn row_of_count(counts: &[u8], e: u64) -> Option<usize>
     requires { CountsGrow (numbers counts.now) }
     ensures { found result ≡ segment_of (numbers counts.now) e }
 {
@@ -131,7 +140,7 @@ fn row_of_count(counts: &[u8], e: u64) -> Found
     last_of(low)
 }
 
-fn row_of_time(times: &[u8], t: i64) -> Found
+fn row_of_time(times: &[u8], t: i64) -> Option<usize>
     requires { TimesGrow (times_in times.now) }
     ensures { found result ≡ segment_at (times_in times.now) t }
 {

@@ -2,78 +2,67 @@
 #![tactic(auto)]
 
 ghost use Rattle.std.specs.Prelude.{◌≡◌, ◌^◌, ◌≤◌, ◌<◌, pos, neg_ℤ, length};
-ghost use Rattle.rules.specs.Answer.{read_answer, print_answer, time_answer, count_answer};
 ghost use Rattle.rules.specs.Print.{fitting, buffer_after};
 ghost use Rattle.c_rules.specs.Numbers.{time_bytes};
 ghost use Rattle.c_rules.specs.Calls.{returned, count_read, count_given, time_written, zero_given};
 ghost use Rattle.c_outcomes.specs.Results.{Returnable};
+ghost use Rattle.rules.specs.Answer.{answer_of};
 
 use byte_lists::put_time;
-use rules::{CountAnswer, PrintAnswer, ReadAnswer, TimeAnswer};
+use rules::{CountAtTime, Reading, Refusal, TimeOfCount};
 
-pub fn count_read(answer: ReadAnswer) -> i64
-    requires { Returnable (count_read (read_answer answer)) }
-    ensures { result ≡ returned (count_read (read_answer answer)) }
+#[tactic(auto, unfolding(c_rules::specs::Calls::count_read, rules::specs::Answer::and_then))]
+pub fn count_read(answer: Result<Reading, Refusal>) -> i64
+    requires { Returnable (count_read (answer_of answer)) }
+    ensures { result ≡ returned (count_read (answer_of answer)) }
 {
-    match answer {
-        ReadAnswer::Read(r) => itself(r.count),
-        ReadAnswer::Refused(k) => negative(k.number),
-    }
+    returned(answer.map(|r| r.count))
 }
 
-pub fn count_given(answer: CountAnswer) -> i64
-    requires { Returnable (count_given (count_answer answer)) }
-    ensures { result ≡ returned (count_given (count_answer answer)) }
+#[tactic(auto, unfolding(c_rules::specs::Calls::count_given, rules::specs::Answer::and_then))]
+pub fn count_given(answer: Result<CountAtTime, Refusal>) -> i64
+    requires { Returnable (count_given (answer_of answer)) }
+    ensures { result ≡ returned (count_given (answer_of answer)) }
 {
-    match answer {
-        CountAnswer::Count(c) => itself(c.count),
-        CountAnswer::Refused(k) => negative(k.number),
-    }
+    returned(answer.map(|c| c.count))
 }
 
-pub fn length_given(answer: PrintAnswer) -> i64
-    requires { Returnable (print_answer answer) }
-    ensures { result ≡ returned (print_answer answer) }
+pub fn length_given(answer: Result<usize, Refusal>) -> i64
+    requires { Returnable (answer_of answer) }
+    ensures { result ≡ returned (answer_of answer) }
+{
+    returned(answer.map(|n| n as u64))
+}
+
+#[tactic(auto, unfolding(c_rules::specs::Calls::returned))]
+fn returned(answer: Result<u64, Refusal>) -> i64
+    requires { Returnable (answer_of answer) }
+    ensures { result ≡ returned (answer_of answer) }
 {
     match answer {
-        PrintAnswer::Length(n) => itself(n as u64),
-        PrintAnswer::Refused(k) => negative(k.number),
+        Ok(n) => n as i64,
+        Err(k) => -(k.number() as i64),
     }
 }
 
 // The time goes to the buffer where it fits, and 0 comes back.
-pub fn time_given(answer: TimeAnswer, buffer: &mut [u8]) -> i64
-    requires { Returnable (zero_given (time_written (time_answer answer) (length buffer.old))) }
-    ensures value { result ≡ returned (zero_given (time_written (time_answer answer) (length buffer.old))) }
-    ensures buffer_after { buffer.new ≡ buffer_after (time_written (time_answer answer) (length buffer.old)) buffer.old }
+pub fn time_given(answer: Result<TimeOfCount, Refusal>, buffer: &mut [u8]) -> i64
+    requires { Returnable (zero_given (time_written (answer_of answer) (length buffer.old))) }
+    ensures value { result ≡ returned (zero_given (time_written (answer_of answer) (length buffer.old))) }
+    ensures buffer_after { buffer.new ≡ buffer_after (time_written (answer_of answer) (length buffer.old)) buffer.old }
 {
-    match answer {
-        TimeAnswer::Time(t) => write_time(t.time, buffer),
-        TimeAnswer::Refused(k) => negative(k.number),
-    }
+    returned(write_time(answer, buffer))
 }
 
-fn write_time(time: i64, buffer: &mut [u8]) -> i64
-    ensures value { result ≡ returned (zero_given (fitting (length buffer.old) (time_bytes time))) }
-    ensures buffer_after { buffer.new ≡ buffer_after (fitting (length buffer.old) (time_bytes time)) buffer.old }
+#[tactic(auto, unfolding(c_rules::specs::Numbers::time_bytes, c_rules::specs::Numbers::bytes_of, c_rules::specs::Calls::zero_given, c_rules::specs::Calls::time_written, rules::specs::Print::fitting, rules::specs::Print::buffer_after, rules::specs::Answer::and_then, rules::specs::Answer::unless))]
+fn write_time(answer: Result<TimeOfCount, Refusal>, buffer: &mut [u8]) -> Result<u64, Refusal>
+    ensures value { answer_of result ≡ zero_given (time_written (answer_of answer) (length buffer.old)) }
+    ensures buffer_after { buffer.new ≡ buffer_after (time_written (answer_of answer) (length buffer.old)) buffer.old }
 {
+    let t = answer?;
     if buffer.len() < 8 {
-        return negative(refusals::BUFFER_TOO_SHORT.number);
+        return Err(Refusal::BufferTooShort);
     }
-    put_time(buffer, time);
-    0
-}
-
-fn itself(count: u64) -> i64
-    requires { count < 2 ^ 63 }
-    ensures { result ≡ pos count }
-{
-    count as i64
-}
-
-fn negative(number: u64) -> i64
-    requires { (1 ≤ number) × (number < 2 ^ 63) }
-    ensures { result ≡ neg_ℤ (pos number) }
-{
-    !((number - 1) as i64)
+    put_time(buffer, t.time);
+    Ok(0)
 }

@@ -11,9 +11,8 @@ use borrow.Author.Tests.{leb-true, ltb-true, eqb-true}
 use Rattle.base.specs.Scans.{all, among}
 use Rattle.base.proofs.Tests.{by_test, and_first, and_second}
 use Rattle.rules.specs.Limits.{most_fields}
-use Rattle.rules.specs.declared.Refusal.{Refusal}
 use Rattle.rules.specs.declared.TimeOfCount.{TimeOfCount}
-use Rattle.rules.specs.Answer.{Answer, answer, refused, unless, and_then}
+use Rattle.rules.specs.Answer.{Answer, answer, refused, unless, and_then, Numbered}
 use Rattle.rules.specs.Partitions.{Partitions}
 use Rattle.rules.specs.Print.{fitting, print_count, print_stamp, length_printed}
 use Rattle.rules.proofs.Answers.{payload, not_answer, unless-test, unless-rest, unless-at-none, unless-at-rest}
@@ -29,7 +28,7 @@ use Rattle.c_outcomes.specs.Results.{Gives, Results, Returnable, is_negative, Ne
 use Rattle.c_outcomes.proofs.Answers.{text-small, stamp-small, message-small, count_small}
 
 -- the number in an answer, and the refusals as they are
-gives : {A : Type 0} (f : A → ℕ) (a : Answer A) (most : ℕ) (ks : List ℕ) → ((x : A) → a ≡ answer x → f x ≤ most) → ((r : Refusal) → a ≡ refused r → among r.number ks ≡ true) → Gives most ks (and_then a (λ x. answer (f x)))
+gives : {A : Type 0} (f : A → ℕ) (a : Answer A) (most : ℕ) (ks : List ℕ) → ((x : A) → a ≡ answer x → f x ≤ most) → ((r : Numbered) → a ≡ refused r → among r.number ks ≡ true) → Gives most ks (and_then a (λ x. answer (f x)))
 unfolding and_then
 gives f (answer x) most ks small only = record { number = λ c h. subst (λ (y : ℕ). y ≤ most) (payload h) (small x refl); refusal = λ r h. absurd (not_answer (sym h)) }
 gives f (refused k) most ks small only = record { number = λ c h. absurd (not_answer h); refusal = λ r h. let same : k ≡ r = cc in only r (ap refused same) }
@@ -67,7 +66,7 @@ module _ (n d : ℕ) (moduli offsets : List ℕ) where
       (stamp_prints_short l p ten (unless-test 1 _ _ s h) (rw (unless-at-none 2 _ _ s after)) e (leb-true e _ (unless-test 12 _ _ s held)))
 
 -- a time's buffer adds 16
-written_only : (a : Answer TimeOfCount) (room : ℕ) → ((r : Refusal) → a ≡ refused r → among r.number time_of_refusals ≡ true) → (r : Refusal) → time_written a room ≡ refused r → among r.number (16 ∷ time_of_refusals) ≡ true
+written_only : (a : Answer TimeOfCount) (room : ℕ) → ((r : Numbered) → a ≡ refused r → among r.number time_of_refusals ≡ true) → (r : Numbered) → time_written a room ≡ refused r → among r.number (16 ∷ time_of_refusals) ≡ true
 unfolding time_written and_then fitting unless among
 written_only (refused k) room only r h = let same : k ≡ r = cc in by_test (eqb r.number 16) (λ t. rw t) (λ f. rw (f, only r (ap refused same)))
 written_only (answer t) room only r h =

@@ -4,8 +4,7 @@ use Rattle.std.specs.Prelude.{ℕ, ◌^◌, ◌≤◌, ◌<◌, ◌≡◌, Bool,
 use Rattle.base.specs.Scans.{among}
 use Rattle.rules.specs.Limits.{largest_count, largest_total}
 use Rattle.rules.specs.declared.Layout.{Layout}
-use Rattle.rules.specs.declared.Refusal.{Refusal}
-use Rattle.rules.specs.Answer.{Answer, answer, refused}
+use Rattle.rules.specs.Answer.{Answer, answer, refused, Numbered}
 use Rattle.rules.specs.Partitions.{Partitions}
 use Rattle.rules.specs.Segments.{Segments}
 use Rattle.rules.specs.Text.{read_text}
@@ -21,7 +20,7 @@ use Rattle.c_rules.specs.Calls.{returned, count_read, count_given, time_written,
 -- a number of at most `most`, or a refusal whose number is one of ks
 pub record Gives (most : ℕ) (ks : List ℕ) (a : Answer ℕ) : Type 0 where
   pub number : (c : ℕ) → a ≡ answer c → c ≤ most
-  pub refusal : (r : Refusal) → a ≡ refused r → among r.number ks ≡ true
+  pub refusal : (r : Numbered) → a ≡ refused r → among r.number ks ≡ true
 
 pub record Results : Type 0 where
   pub text : (l : Layout) (s : List ℕ) → Gives largest_count text_refusals (count_read (read_text l s))
@@ -47,5 +46,5 @@ NegativeIsRefused = (most : ℕ) (ks : List ℕ) (a : Answer ℕ) → Gives most
 -- a result is an i64: a number below 2^63, a refusal's number from 1 to that
 pub record Returnable (a : Answer ℕ) : Type 0 where
   pub number : (c : ℕ) → a ≡ answer c → c < 2 ^ 63
-  pub low : (r : Refusal) → a ≡ refused r → 1 ≤ r.number
-  pub high : (r : Refusal) → a ≡ refused r → r.number < 2 ^ 63
+  pub low : (r : Numbered) → a ≡ refused r → 1 ≤ r.number
+  pub high : (r : Numbered) → a ≡ refused r → r.number < 2 ^ 63

@@ -1,22 +1,16 @@
 -- The lines put together of their fields.
+use Rattle.rules.specs.declared.refusal.Refusal.{Refusal}
+use Rattle.std.specs.Prelude.{Result, Ok, Err}
 use Prim.Native.Nat.{ℕ, ◌+◌, ◌≤◌}
-use mathlib.Core.Path.{◌≡◌, refl, sym, ap, ◌∙◌}
+use mathlib.Core.Path.{◌≡◌, refl, sym, ◌∙◌}
 use mathlib.Core.Bool.{Bool, true, false}
 use mathlib.Core.List.{List, [], ◌∷◌, ◌++◌, append_assoc}
 use lib.ListN.{length, take, drop, length-append}
 use lib.Seq.{take-append_seam}
 use native.Mathlib.Omega.{arith}
-use Rattle.rules.specs.declared.Refusal.{Refusal}
 use Rattle.rules.specs.declared.TimedStamp.{TimedStamp}
-use Rattle.rules.specs.declared.StampAnswer.{StampAnswer}
-use Rattle.rules.specs.declared.StampAnswer.TheVariants as Stamps
-use Rattle.rules.specs.declared.CountAtTime.{CountAtTime}
-use Rattle.rules.specs.declared.CountAnswer.{CountAnswer}
-use Rattle.rules.specs.declared.CountAnswer.TheVariants as Counts
-use Rattle.rules.specs.declared.PrintAnswer.{PrintAnswer}
-use Rattle.rules.specs.declared.PrintAnswer.TheVariants as Prints
 use Rattle.rules.specs.declared.Layout.{Layout}
-use Rattle.rules.specs.Answer.{Answer, answer, refused, and_then, stamp_answer, count_answer, print_answer}
+use Rattle.rules.specs.Answer.{Answer, answer, refused, and_then, Numbered, as_numbered}
 use Rattle.rules.specs.Partitions.{Partitions}
 use Rattle.rules.specs.Print.{length_printed, buffer_after}
 use Rattle.rules.specs.Examples.{bytes}
@@ -25,8 +19,8 @@ use Rattle.decimal.specs.Writing.{Written}
 use Rattle.decimal.proofs.LeftToRight.{written_same_length, written_then}
 use Rattle.number_text.specs.Numbers.{decimal_of}
 use Rattle.buffer_print.specs.Printed.{Printed}
-use Rattle.command_rules.specs.Fields.{field, last_field, refusal_text}
-use Rattle.command_rules.specs.Lines.{Line, answered_line, print_by, both_fields, time_fields, time_line, count_field}
+use Rattle.command_rules.specs.Fields.{field, refusal_text}
+use Rattle.command_rules.specs.Lines.{answered_line, print_by, both_fields, time_fields}
 use Rattle.command_answers.specs.declared.Put.{Put}
 use Rattle.command_answers.specs.Put.{longest_line, PutLine}
 
@@ -59,20 +53,20 @@ pub counted-put : (count at next : ℕ) {entry exit : List ℕ} → Written (dec
 unfolding answered_line
 counted-put count at next w l = record { text = w; well = refl; short = omega arith }
 
-pub refused-put : (k : Refusal) (at place next : ℕ) {entry first exit : List ℕ} → at + longest_line ≤ length entry
+pub refused-put : (k : Numbered) (at place next : ℕ) {entry first exit : List ℕ} → at + longest_line ≤ length entry
     → Written (114 ∷ 101 ∷ 102 ∷ 117 ∷ 115 ∷ 101 ∷ 100 ∷ 9 ∷ []) place at entry first → Written (refusal_text k ++ (10 ∷ [])) next place first exit → next ≤ place + 84
     → PutLine (answered_line (refused k)) (record { at = next; well = false }) at entry exit
 unfolding answered_line bytes
 refused-put k at place next room w v l = record { text = written_then w v (omega (arith, w.ends)); well = refl; short = omega (arith, w.ends) }
 
 -- what a print answered
-module _ (p : Answer (List ℕ)) (r : PrintAnswer) (entry exit : List ℕ) (w : Printed p r entry exit) where
+module _ (p : Answer (List ℕ)) (r : Result ℕ Refusal) (entry exit : List ℕ) (w : Printed p r entry exit) where
   printed-text : (n : ℕ) (x : Answer (List ℕ)) → p ≡ x → answer n ≡ length_printed x → exit ≡ buffer_after x entry → x ≡ answer (take n exit)
   unfolding length_printed buffer_after
   printed-text n (answer s) q l b = let e : n ≡ length s = payload l in rw (b, e, take-append_seam s (drop (length s) entry))
   printed-text n (refused k) q l b = absurd (not_answer (sym l))
 
-  pub print_given : (n : ℕ) → r ≡ Prints.Length n → p ≡ answer (take n exit)
+  pub print_given : (n : ℕ) → r ≡ Ok n → p ≡ answer (take n exit)
   print_given n h = printed-text n p refl (rw h at w.answers) w.bytes
 
   fits : (n : ℕ) (x : Answer (List ℕ)) → answer n ≡ length_printed x → exit ≡ buffer_after x entry → n ≤ length exit
@@ -80,55 +74,36 @@ module _ (p : Answer (List ℕ)) (r : PrintAnswer) (entry exit : List ℕ) (w : 
   fits n (answer s) l b = let e : n ≡ length s = payload l in rw b (omega (arith, length-append s (drop (length s) entry)))
   fits n (refused k) l b = absurd (not_answer (sym l))
 
-  pub print_fits : (n : ℕ) → r ≡ Prints.Length n → n ≤ length exit
+  pub print_fits : (n : ℕ) → r ≡ Ok n → n ≤ length exit
   print_fits n h = fits n p (rw h at w.answers) w.bytes
 
-  pub print_short : (n : ℕ) → r ≡ Prints.Length n → length exit ≡ 96 → n ≤ 96
+  pub print_short : (n : ℕ) → r ≡ Ok n → length exit ≡ 96 → n ≤ 96
   print_short n h e = omega (arith, print_fits n h)
 
-  refused_as : (k : Refusal) (x : Answer (List ℕ)) → refused k ≡ length_printed x → x ≡ refused k
+  refused_as : (k : Numbered) (x : Answer (List ℕ)) → refused k ≡ length_printed x → x ≡ refused k
   unfolding length_printed
   refused_as k (answer s) l = absurd (not_answer l)
   refused_as k (refused j) l = cc
 
-  pub print_refused : (k : Refusal) → r ≡ Prints.Refused k → p ≡ refused k
-  print_refused k h = refused_as k p (rw h at w.answers)
+  pub print_refused : (k : Refusal) → r ≡ Err k → p ≡ refused (as_numbered k)
+  print_refused k h = refused_as (as_numbered k) p (rw h at w.answers)
 
 module _ (seconds : Bool) (l : Layout) (q : Partitions) (at : ℕ) {r : Put} {entry exit : List ℕ} where
-  -- a stamp by its cases
-  pub timed-stamp : (a : StampAnswer) (s : TimedStamp) → a ≡ Stamps.Stamp s → PutLine (answered_line (time_fields seconds l q s)) r at entry exit → PutLine (time_line seconds l q (stamp_answer a)) r at entry exit
-  unfolding time_line and_then
-  timed-stamp a s e w = rw e w
-
-  pub timed-refused : (a : StampAnswer) (k : Refusal) → a ≡ Stamps.Refused k → PutLine (answered_line (refused k)) r at entry exit → PutLine (time_line seconds l q (stamp_answer a)) r at entry exit
-  unfolding time_line and_then
-  timed-refused a k e w = rw e w
-
   -- its print
-  module _ (s : TimedStamp) (p : PrintAnswer) (before after : List ℕ) (x : Printed (print_by l q s.count) p before after) where
-    pub stamp_printed : (n : ℕ) → p ≡ Prints.Length n → PutLine (answered_line (answer (field (both_fields seconds s) (take n after)))) r at entry exit
+  module _ (s : TimedStamp) (p : Result ℕ Refusal) (before after : List ℕ) (x : Printed (print_by l q s.count) p before after) where
+    pub stamp_printed : (n : ℕ) → p ≡ Ok n → PutLine (answered_line (answer (field (both_fields seconds s) (take n after)))) r at entry exit
         → PutLine (answered_line (time_fields seconds l q s)) r at entry exit
     unfolding time_fields and_then
     stamp_printed n e w = rw (print_given (print_by l q s.count) p before after x n e) w
 
-    pub stamp-unprinted : (k : Refusal) → p ≡ Prints.Refused k → PutLine (answered_line (refused k)) r at entry exit → PutLine (answered_line (time_fields seconds l q s)) r at entry exit
+    pub stamp-unprinted : (k : Refusal) → p ≡ Err k → PutLine (answered_line (refused (as_numbered k))) r at entry exit → PutLine (answered_line (time_fields seconds l q s)) r at entry exit
     unfolding time_fields and_then
     stamp-unprinted k e w = rw (print_refused (print_by l q s.count) p before after x k e) w
 
 -- a print alone
-module _ (t : Answer (List ℕ)) (at : ℕ) {r : Put} {entry exit : List ℕ} (p : PrintAnswer) (before after : List ℕ) (x : Printed t p before after) where
-  pub print-put : (n : ℕ) → p ≡ Prints.Length n → PutLine (answered_line (answer (take n after))) r at entry exit → PutLine (answered_line t) r at entry exit
+module _ (t : Answer (List ℕ)) (at : ℕ) {r : Put} {entry exit : List ℕ} (p : Result ℕ Refusal) (before after : List ℕ) (x : Printed t p before after) where
+  pub print-put : (n : ℕ) → p ≡ Ok n → PutLine (answered_line (answer (take n after))) r at entry exit → PutLine (answered_line t) r at entry exit
   print-put n e w = rw (print_given t p before after x n e) w
 
-  pub print-not-put : (k : Refusal) → p ≡ Prints.Refused k → PutLine (answered_line (refused k)) r at entry exit → PutLine (answered_line t) r at entry exit
+  pub print-not-put : (k : Refusal) → p ≡ Err k → PutLine (answered_line (refused (as_numbered k))) r at entry exit → PutLine (answered_line t) r at entry exit
   print-not-put k e w = rw (print_refused t p before after x k e) w
-
--- a count
-module _ (a : CountAnswer) (at : ℕ) {r : Put} {entry exit : List ℕ} where
-  pub count-put : (c : CountAtTime) → a ≡ Counts.Count c → PutLine (answered_line (answer (decimal_of c.count))) r at entry exit → PutLine (answered_line (count_field (count_answer a))) r at entry exit
-  unfolding count_field and_then
-  count-put c e w = rw e w
-
-  pub count-not-put : (k : Refusal) → a ≡ Counts.Refused k → PutLine (answered_line (refused k)) r at entry exit → PutLine (answered_line (count_field (count_answer a))) r at entry exit
-  unfolding count_field and_then
-  count-not-put k e w = rw e w

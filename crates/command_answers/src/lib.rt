@@ -2,7 +2,7 @@
 #![tactic(auto)]
 
 ghost use Rattle.std.specs.Prelude.{◌≡◌, [], ◌∷◌, ◌++◌, ◌+◌, ◌≤◌, length, take};
-ghost use Rattle.rules.specs.Answer.{answer, refused, stamp_answer, count_answer};
+ghost use Rattle.rules.specs.Answer.{answer, refused, as_numbered, answer_of};
 ghost use Rattle.rules.specs.Partitions.{partitions};
 ghost use Rattle.rules.specs.Limits.{longest_text};
 ghost use Rattle.tables.specs.Accept.{StampsFacts};
@@ -15,7 +15,7 @@ use accepted_calls::stamp_print;
 use command_text::put_both;
 use number_text::{put_byte, put_bytes, put_front, put_number};
 use refusal_text::put_refusal;
-use rules::{CountAnswer, Layout, PrintAnswer, Refusal, StampAnswer, TimedStamp};
+use rules::{CountAtTime, Layout, Refusal, TimedStamp};
 use tables::Basis;
 
 // The place after the line that was put, and whether the line of input is answered well.
@@ -30,25 +30,24 @@ const TAB: u8 = b'\t';
 const LINE_END: u8 = b'\n';
 
 // A stamp's count, time and print, or what it is refused.
+#[tactic(auto, unfolding(command_rules::specs::Lines::time_line, rules::specs::Answer::and_then))]
 pub fn put_timed(
     seconds: bool,
     layout: Layout,
     basis: Basis,
     starts: &[u64],
     ends: &[u64],
-    given: StampAnswer,
+    given: Result<TimedStamp, Refusal>,
     out: &mut [u8],
     at: usize,
 ) -> Put
     requires stamps_facts { StampsFacts layout (partitions starts.now ends.now) basis }
     requires longest_line_in_bounds { at + longest_line ≤ length out.old }
-    ensures { PutLine (time_line seconds layout (partitions starts.now ends.now) (stamp_answer given)) result at out.old out.new }
+    ensures { PutLine (time_line seconds layout (partitions starts.now ends.now) (answer_of given)) result at out.old out.new }
 {
     match given {
-        StampAnswer::Stamp(stamp) => put_stamp(
-            seconds, layout, basis, starts, ends, stamp, out, at,
-        ),
-        StampAnswer::Refused(k) => put_refused(out, at, k),
+        Ok(stamp) => put_stamp(seconds, layout, basis, starts, ends, stamp, out, at),
+        Err(k) => put_refused(out, at, k),
     }
 }
 
@@ -68,8 +67,8 @@ fn put_stamp(
 {
     let mut buffer = [0u8; 96];
     match stamp_print(layout, basis, starts, ends, stamp.count, &mut buffer) {
-        PrintAnswer::Length(n) => put_fields(seconds, stamp, &buffer, n, out, at),
-        PrintAnswer::Refused(k) => put_refused(out, at, k),
+        Ok(n) => put_fields(seconds, stamp, &buffer, n, out, at),
+        Err(k) => put_refused(out, at, k),
     }
 }
 
@@ -111,8 +110,8 @@ pub fn put_print(
 {
     let mut buffer = [0u8; 96];
     match stamp_print(layout, basis, starts, ends, encoded, &mut buffer) {
-        PrintAnswer::Length(n) => put_text(&buffer, n, out, at),
-        PrintAnswer::Refused(k) => put_refused(out, at, k),
+        Ok(n) => put_text(&buffer, n, out, at),
+        Err(k) => put_refused(out, at, k),
     }
 }
 
@@ -130,13 +129,14 @@ fn put_text(buffer: &[u8], n: usize, out: &mut [u8], at: usize) -> Put
 }
 
 // An encoded count, or what it is refused.
-pub fn put_count(given: CountAnswer, out: &mut [u8], at: usize) -> Put
+#[tactic(auto, unfolding(command_rules::specs::Lines::count_field, rules::specs::Answer::and_then))]
+pub fn put_count(given: Result<CountAtTime, Refusal>, out: &mut [u8], at: usize) -> Put
     requires { at + longest_line ≤ length out.old }
-    ensures { PutLine (answered_line (count_field (count_answer given))) result at out.old out.new }
+    ensures { PutLine (answered_line (count_field (answer_of given))) result at out.old out.new }
 {
     match given {
-        CountAnswer::Count(c) => put_counted(c.count, out, at),
-        CountAnswer::Refused(k) => put_refused(out, at, k),
+        Ok(c) => put_counted(c.count, out, at),
+        Err(k) => put_refused(out, at, k),
     }
 }
 
@@ -154,7 +154,7 @@ fn put_counted(count: u64, out: &mut [u8], at: usize) -> Put
 // `refused`, and the refusal.
 pub fn put_refused(out: &mut [u8], at: usize, refusal: Refusal) -> Put
     requires { at + longest_line ≤ length out.old }
-    ensures { PutLine (answered_line (refused refusal)) result at out.old out.new }
+    ensures { PutLine (answered_line (refused (as_numbered refusal))) result at out.old out.new }
 {
     let place = put_bytes(out, at, b"refused\t");
     let next = put_refusal(out, place, refusal, LINE_END);

@@ -1,9 +1,9 @@
 -- The lines of a comparison put together of their fields.
+use Rattle.rules.specs.declared.refusal.Refusal.{Refusal}
 use Prim.Native.Nat.{ℕ, ◌+◌, ◌≤◌}
 use mathlib.Core.Path.{◌≡◌, refl, sym, ap, ◌∙◌}
 use mathlib.Core.Bool.{Bool, true, false, ◌&&◌, and-true, and-false}
 use mathlib.Core.List.{List, [], ◌∷◌, ◌++◌, append_assoc}
-use lib.IntN.{ℤ}
 use lib.Dec.{eqb}
 use lib.ListN.{length}
 use mir.Syntax.{w64}
@@ -11,17 +11,14 @@ use mir.Val.{SFits, to_z, of_z}
 use mir.Facts.{to_z-of_z}
 use borrow.Author.Tests.{eq-eqb, ne_eqb}
 use native.Mathlib.Omega.{arith}
-use Rattle.rules.specs.declared.Refusal.{Refusal}
 use Rattle.rules.specs.declared.TimedStamp.{TimedStamp}
-use Rattle.rules.specs.declared.StampAnswer.{StampAnswer}
-use Rattle.rules.specs.declared.StampAnswer.TheVariants as Stamps
-use Rattle.rules.specs.Answer.{Answer, answer, refused, stamp_answer}
+use Rattle.rules.specs.Answer.{answer, refused, Numbered, as_numbered, number_of}
 use Rattle.rules.specs.Examples.{bytes}
 use Rattle.versions.specs.Equal.{eq_z}
 use Rattle.versions.proofs.Equal.{eq_eq_z, ne_eq_z}
 use Rattle.decimal.specs.Writing.{Written}
 use Rattle.decimal.proofs.LeftToRight.{written_same_length, written_then}
-use Rattle.command_rules.specs.Fields.{field, last_field, difference_text, refusal_text}
+use Rattle.command_rules.specs.Fields.{difference_text, refusal_text}
 use Rattle.command_rules.specs.Lines.{both_fields, both_line, refused_line, compare_line}
 use Rattle.command_answers.specs.declared.Put.{Put}
 use Rattle.command_answers.specs.Put.{longest_line, PutLine}
@@ -60,7 +57,7 @@ module _ (seconds : Bool) (at : ℕ) {entry : List ℕ} (room : at + longest_lin
       let rest = two (both_fields seconds a) _ place second next v tail (omega (arith, w.ends, one)) in
       record { text = written_then w rest (omega (arith, w.ends)); well = refl; short = omega (arith, w.ends) }
 
-  pub older_put : (j : Refusal) (b : TimedStamp) (place second next : ℕ) {first mid exit : List ℕ} → Written (111 ∷ 108 ∷ 100 ∷ 101 ∷ 114 ∷ 32 ∷ 114 ∷ 101 ∷ 102 ∷ 117 ∷ 115 ∷ 101 ∷ 115 ∷ 9 ∷ []) place at entry first
+  pub older_put : (j : Numbered) (b : TimedStamp) (place second next : ℕ) {first mid exit : List ℕ} → Written (111 ∷ 108 ∷ 100 ∷ 101 ∷ 114 ∷ 32 ∷ 114 ∷ 101 ∷ 102 ∷ 117 ∷ 115 ∷ 101 ∷ 115 ∷ 9 ∷ []) place at entry first
       → Written (refusal_text j ++ (9 ∷ [])) second place first mid → second ≤ place + 84 → Written (both_fields seconds b ++ (10 ∷ [])) next second mid exit → next ≤ second + 56
       → PutLine (compare_line seconds (refused j) (answer b)) (record { at = next; well = false }) at entry exit
   unfolding compare_line bytes
@@ -69,7 +66,7 @@ module _ (seconds : Bool) (at : ℕ) {entry : List ℕ} (room : at + longest_lin
       let rest = two (refusal_text j) _ place second next v x (omega (arith, w.ends, one)) in
       record { text = written_then w rest (omega (arith, w.ends)); well = refl; short = omega (arith, w.ends) }
 
-  pub newer_put : (k : Refusal) (a : TimedStamp) (place second next : ℕ) {first mid exit : List ℕ} → Written (110 ∷ 101 ∷ 119 ∷ 101 ∷ 114 ∷ 32 ∷ 114 ∷ 101 ∷ 102 ∷ 117 ∷ 115 ∷ 101 ∷ 115 ∷ 9 ∷ []) place at entry first
+  pub newer_put : (k : Numbered) (a : TimedStamp) (place second next : ℕ) {first mid exit : List ℕ} → Written (110 ∷ 101 ∷ 119 ∷ 101 ∷ 114 ∷ 32 ∷ 114 ∷ 101 ∷ 102 ∷ 117 ∷ 115 ∷ 101 ∷ 115 ∷ 9 ∷ []) place at entry first
       → Written (refusal_text k ++ (9 ∷ [])) second place first mid → second ≤ place + 84 → Written (both_fields seconds a ++ (10 ∷ [])) next second mid exit → next ≤ second + 56
       → PutLine (compare_line seconds (answer a) (refused k)) (record { at = next; well = false }) at entry exit
   unfolding compare_line bytes
@@ -79,12 +76,12 @@ module _ (seconds : Bool) (at : ℕ) {entry : List ℕ} (room : at + longest_lin
       record { text = written_then w rest (omega (arith, w.ends)); well = refl; short = omega (arith, w.ends) }
 
 module _ (at : ℕ) {entry : List ℕ} (room : at + longest_line ≤ length entry) where
-  pub one_put : (j : Refusal) (place next : ℕ) {first exit : List ℕ} → Written (115 ∷ 97 ∷ 109 ∷ 101 ∷ 9 ∷ 114 ∷ 101 ∷ 102 ∷ 117 ∷ 115 ∷ 101 ∷ 100 ∷ 9 ∷ []) place at entry first → Written (refusal_text j ++ (10 ∷ [])) next place first exit → next ≤ place + 84
+  pub one_put : (j : Numbered) (place next : ℕ) {first exit : List ℕ} → Written (115 ∷ 97 ∷ 109 ∷ 101 ∷ 9 ∷ 114 ∷ 101 ∷ 102 ∷ 117 ∷ 115 ∷ 101 ∷ 100 ∷ 9 ∷ []) place at entry first → Written (refusal_text j ++ (10 ∷ [])) next place first exit → next ≤ place + 84
       → PutLine (refused_line j j true) (record { at = next; well = false }) at entry exit
   unfolding refused_line bytes
   one_put j place next w v l = record { text = written_then w v (omega (arith, w.ends)); well = refl; short = omega (arith, w.ends) }
 
-  pub two_put : (j k : Refusal) (place second next : ℕ) {first mid exit : List ℕ} → Written (114 ∷ 101 ∷ 102 ∷ 117 ∷ 115 ∷ 101 ∷ 100 ∷ 9 ∷ []) place at entry first
+  pub two_put : (j k : Numbered) (place second next : ℕ) {first mid exit : List ℕ} → Written (114 ∷ 101 ∷ 102 ∷ 117 ∷ 115 ∷ 101 ∷ 100 ∷ 9 ∷ []) place at entry first
       → Written (refusal_text j ++ (9 ∷ [])) second place first mid → second ≤ place + 84 → Written (refusal_text k ++ (10 ∷ [])) next second mid exit → next ≤ second + 84
       → PutLine (refused_line j k false) (record { at = next; well = false }) at entry exit
   unfolding refused_line bytes
@@ -95,12 +92,14 @@ module _ (at : ℕ) {entry : List ℕ} (room : at + longest_line ≤ length entr
 
 module _ {r : Put} {at : ℕ} {entry exit : List ℕ} where
   -- by whether both refuse with one number
-  pub one_number : (j k : Refusal) → j.number ≡ k.number → PutLine (refused_line j j true) r at entry exit → PutLine (refused_line j k (eqb j.number k.number)) r at entry exit
+  pub one_number : (j k : Refusal) (m n : ℕ) → m ≡ number_of j → n ≡ number_of k → m ≡ n → PutLine (refused_line (as_numbered j) (as_numbered j) true) r at entry exit
+      → PutLine (refused_line (as_numbered j) (as_numbered k) (eqb (number_of j) (number_of k))) r at entry exit
   unfolding refused_line
-  one_number j k e w = rw (eq-eqb j.number k.number e) w
+  one_number j k m n f g e w = rw (eq-eqb (number_of j) (number_of k) (sym f ∙ e ∙ g)) w
 
-  pub two_numbers : (j k : Refusal) → (j.number ≡ k.number → ⊥) → PutLine (refused_line j k false) r at entry exit → PutLine (refused_line j k (eqb j.number k.number)) r at entry exit
-  two_numbers j k n w = rw (ne_eqb j.number k.number n) w
+  pub two_numbers : (j k : Refusal) (m n : ℕ) → m ≡ number_of j → n ≡ number_of k → (m ≡ n → ⊥) → PutLine (refused_line (as_numbered j) (as_numbered k) false) r at entry exit
+      → PutLine (refused_line (as_numbered j) (as_numbered k) (eqb (number_of j) (number_of k))) r at entry exit
+  two_numbers j k m n f g d w = rw (ne_eqb (number_of j) (number_of k) (λ e. d (f ∙ e ∙ sym g))) w
 
   -- by whether both answer alike
   module _ (seconds : Bool) (a b : TimedStamp) (t : Bool) (e : t ≡ (eqb a.count b.count && eq_z a.time b.time)) where
@@ -111,25 +110,3 @@ module _ {r : Put} {at : ℕ} {entry exit : List ℕ} where
     pub unlike : t ≡ false → PutLine (both_line seconds a b false) r at entry exit → PutLine (compare_line seconds (answer a) (answer b)) r at entry exit
     unfolding compare_line
     unlike h w = rw (← e, h) w
-
-  -- by the cases of the two answers
-  pub older_answers : (seconds : Bool) (o : StampAnswer) (x : Answer TimedStamp) (a : TimedStamp) → o ≡ Stamps.Stamp a → PutLine (compare_line seconds (answer a) x) r at entry exit
-      → PutLine (compare_line seconds (stamp_answer o) x) r at entry exit
-  older_answers seconds o x a e w = rw e w
-
-  pub older_refuses : (seconds : Bool) (o : StampAnswer) (x : Answer TimedStamp) (j : Refusal) → o ≡ Stamps.Refused j → PutLine (compare_line seconds (refused j) x) r at entry exit
-      → PutLine (compare_line seconds (stamp_answer o) x) r at entry exit
-  older_refuses seconds o x j e w = rw e w
-
-  pub newer_answers : (seconds : Bool) (x : Answer TimedStamp) (n : StampAnswer) (b : TimedStamp) → n ≡ Stamps.Stamp b → PutLine (compare_line seconds x (answer b)) r at entry exit
-      → PutLine (compare_line seconds x (stamp_answer n)) r at entry exit
-  newer_answers seconds x n b e w = rw e w
-
-  pub newer_refuses : (seconds : Bool) (x : Answer TimedStamp) (n : StampAnswer) (k : Refusal) → n ≡ Stamps.Refused k → PutLine (compare_line seconds x (refused k)) r at entry exit
-      → PutLine (compare_line seconds x (stamp_answer n)) r at entry exit
-  newer_refuses seconds x n k e w = rw e w
-
-  pub both_refuse : (seconds : Bool) (j : Refusal) (n : StampAnswer) (k : Refusal) → n ≡ Stamps.Refused k → PutLine (refused_line j k (eqb j.number k.number)) r at entry exit
-      → PutLine (compare_line seconds (refused j) (stamp_answer n)) r at entry exit
-  unfolding compare_line
-  both_refuse seconds j n k e w = rw e w

@@ -2,7 +2,7 @@
 #![tactic(auto)]
 
 ghost use Rattle.std.specs.Prelude.{◌≡◌, true, false, ◌&&◌, ◌+◌, ◌≤◌, eqb, length};
-ghost use Rattle.rules.specs.Answer.{answer, refused, stamp_answer};
+ghost use Rattle.rules.specs.Answer.{answer, refused, as_numbered, number_of, answer_of};
 ghost use Rattle.versions.specs.Equal.{eq_z};
 ghost use Rattle.command_rules.specs.Lines.{both_line, refused_line, compare_line};
 ghost use Rattle.command_answers.specs.Put.{longest_line, PutLine};
@@ -11,47 +11,28 @@ use command_answers::Put;
 use command_text::{put_both, put_difference};
 use number_text::put_bytes;
 use refusal_text::put_refusal;
-use rules::{Refusal, StampAnswer, TimedStamp};
+use rules::{Refusal, TimedStamp};
 
 const TAB: u8 = b'\t';
 
 const LINE_END: u8 = b'\n';
 
+#[tactic(auto, unfolding(command_rules::specs::Lines::compare_line))]
 pub fn put_compared(
     seconds: bool,
-    older: StampAnswer,
-    newer: StampAnswer,
+    older: Result<TimedStamp, Refusal>,
+    newer: Result<TimedStamp, Refusal>,
     out: &mut [u8],
     at: usize,
 ) -> Put
     requires { at + longest_line ≤ length out.old }
-    ensures { PutLine (compare_line seconds (stamp_answer older) (stamp_answer newer)) result at out.old out.new }
+    ensures { PutLine (compare_line seconds (answer_of older) (answer_of newer)) result at out.old out.new }
 {
-    match older {
-        StampAnswer::Stamp(a) => put_answered(seconds, a, newer, out, at),
-        StampAnswer::Refused(j) => put_unanswered(seconds, j, newer, out, at),
-    }
-}
-
-// The older answers.
-fn put_answered(seconds: bool, a: TimedStamp, newer: StampAnswer, out: &mut [u8], at: usize) -> Put
-    requires { at + longest_line ≤ length out.old }
-    ensures { PutLine (compare_line seconds (answer a) (stamp_answer newer)) result at out.old out.new }
-{
-    match newer {
-        StampAnswer::Stamp(b) => put_answers(seconds, a, b, out, at),
-        StampAnswer::Refused(k) => put_newer_refused(seconds, k, a, out, at),
-    }
-}
-
-// The older refuses.
-fn put_unanswered(seconds: bool, j: Refusal, newer: StampAnswer, out: &mut [u8], at: usize) -> Put
-    requires { at + longest_line ≤ length out.old }
-    ensures { PutLine (compare_line seconds (refused j) (stamp_answer newer)) result at out.old out.new }
-{
-    match newer {
-        StampAnswer::Stamp(b) => put_older_refused(seconds, j, b, out, at),
-        StampAnswer::Refused(k) => put_refusals(j, k, out, at),
+    match (older, newer) {
+        (Ok(a), Ok(b)) => put_answers(seconds, a, b, out, at),
+        (Ok(a), Err(k)) => put_newer_refused(seconds, k, a, out, at),
+        (Err(j), Ok(b)) => put_older_refused(seconds, j, b, out, at),
+        (Err(j), Err(k)) => put_refusals(j, k, out, at),
     }
 }
 
@@ -102,7 +83,7 @@ fn put_differ(seconds: bool, a: TimedStamp, b: TimedStamp, out: &mut [u8], at: u
 
 fn put_older_refused(seconds: bool, j: Refusal, b: TimedStamp, out: &mut [u8], at: usize) -> Put
     requires { at + longest_line ≤ length out.old }
-    ensures { PutLine (compare_line seconds (refused j) (answer b)) result at out.old out.new }
+    ensures { PutLine (compare_line seconds (refused (as_numbered j)) (answer b)) result at out.old out.new }
 {
     let place = put_bytes(out, at, b"older refuses\t");
     let second = put_refusal(out, place, j, TAB);
@@ -115,7 +96,7 @@ fn put_older_refused(seconds: bool, j: Refusal, b: TimedStamp, out: &mut [u8], a
 
 fn put_newer_refused(seconds: bool, k: Refusal, a: TimedStamp, out: &mut [u8], at: usize) -> Put
     requires { at + longest_line ≤ length out.old }
-    ensures { PutLine (compare_line seconds (answer a) (refused k)) result at out.old out.new }
+    ensures { PutLine (compare_line seconds (answer a) (refused (as_numbered k))) result at out.old out.new }
 {
     let place = put_bytes(out, at, b"newer refuses\t");
     let second = put_refusal(out, place, k, TAB);
@@ -128,9 +109,9 @@ fn put_newer_refused(seconds: bool, k: Refusal, a: TimedStamp, out: &mut [u8], a
 
 fn put_refusals(j: Refusal, k: Refusal, out: &mut [u8], at: usize) -> Put
     requires { at + longest_line ≤ length out.old }
-    ensures { PutLine (refused_line j k (eqb j.number k.number)) result at out.old out.new }
+    ensures { PutLine (refused_line (as_numbered j) (as_numbered k) (eqb (number_of j) (number_of k))) result at out.old out.new }
 {
-    if j.number == k.number {
+    if j.number() == k.number() {
         return put_one_number(j, out, at);
     }
     put_two_numbers(j, k, out, at)
@@ -138,7 +119,7 @@ fn put_refusals(j: Refusal, k: Refusal, out: &mut [u8], at: usize) -> Put
 
 fn put_one_number(j: Refusal, out: &mut [u8], at: usize) -> Put
     requires { at + longest_line ≤ length out.old }
-    ensures { PutLine (refused_line j j true) result at out.old out.new }
+    ensures { PutLine (refused_line (as_numbered j) (as_numbered j) true) result at out.old out.new }
 {
     let place = put_bytes(out, at, b"same\trefused\t");
     let next = put_refusal(out, place, j, LINE_END);
@@ -150,7 +131,7 @@ fn put_one_number(j: Refusal, out: &mut [u8], at: usize) -> Put
 
 fn put_two_numbers(j: Refusal, k: Refusal, out: &mut [u8], at: usize) -> Put
     requires { at + longest_line ≤ length out.old }
-    ensures { PutLine (refused_line j k false) result at out.old out.new }
+    ensures { PutLine (refused_line (as_numbered j) (as_numbered k) false) result at out.old out.new }
 {
     let place = put_bytes(out, at, b"refused\t");
     let second = put_refusal(out, place, j, TAB);

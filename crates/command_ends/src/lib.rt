@@ -82,10 +82,8 @@ fn put_fields(out: &mut [u8], at: usize, n: usize, moduli: &[u64], offsets: &[u6
     ensures upper_bound { result ≤ at + most_fields * longest_field }
 {
     let mut place = at;
-    let mut i = 0;
-    while i < n {
+    for i in 0..n {
         place = put_field(out, place, i as u64 + 1, moduli[i], offsets[i]);
-        i += 1;
     }
     place
 }

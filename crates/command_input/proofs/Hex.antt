@@ -1,5 +1,5 @@
 -- Hex digits, the bytes that they make, and what each way out of reading them says.
-use Prim.Native.Nat.{ℕ, ◌+◌, ◌-◌, ◌*◌, ◌%◌, ◌≤◌, ◌<◌}
+use Prim.Native.Nat.{ℕ, ◌+◌, ◌*◌, ◌%◌, ◌≤◌, ◌<◌}
 use mathlib.Core.Path.{◌≡◌, sym, ◌∙◌}
 use mathlib.Core.Bool.{Bool, true, false, not}
 use mathlib.Core.List.{List, ◌++◌, append_assoc, append-nil}
@@ -8,67 +8,21 @@ use lib.ListN.{length, take, drop, get_or, set, drop_of_length-le}
 use lib.Seq.{take-suc-set}
 use native.Mathlib.Numerals.{add-one}
 use native.Mathlib.Omega.{arith}
-use borrow.Author.Tests.{lt-leb, le-leb, leb-true, leb-false, eq-eqb, ne_eqb}
-use Rattle.base.proofs.Tests.{by_test, not_both, and_out_first, and_out_second, or_neither}
+use borrow.Author.Tests.{lt-leb, le-leb, eq-eqb, ne_eqb}
+use Rattle.std.specs.Char.{is_ascii_hexdigit}
+use mathlib.Core.Bool.{or_assoc, ◌&&◌}
+use Rattle.rules.specs.Text.{is_digit}
 use Rattle.base.proofs.Lists.{drop_next, all_get_d}
-use Rattle.rules.specs.declared.Refusal.{Refusal}
-use Rattle.rules.specs.Answer.{answer, refused, refuse, placed, unless, unless_at, fails_at}
+use Rattle.rules.specs.Answer.{answer, refused, refuse, placed, unless, unless_at, fails_at, Numbered}
 use Rattle.command_rules.specs.Input.{is_hex, worth, bytes_of, longest_hex, read_hex}
 use Rattle.command_input.specs.Runs.{run_length}
 use Rattle.command_input.specs.Given.{longest_message, HexText}
 use Rattle.command_input.proofs.Runs.{run_all, run_next, run_stop, run_past, other_found, other_missing}
 
 -- whether a byte is a hex digit
-module _ (b : ℕ) where
-  pub below_digits : b < 48 → false ≡ is_hex b
-  unfolding is_hex
-  below_digits h = rw (lt-leb 48 b h, lt-leb 65 b (omega arith), lt-leb 97 b (omega arith))
-
-  pub a_digit : 48 ≤ b → b ≤ 57 → true ≡ is_hex b
-  unfolding is_hex
-  a_digit l h = rw (le-leb 48 b l, le-leb b 57 h)
-
-  pub below_capitals : 57 < b → b < 65 → false ≡ is_hex b
-  unfolding is_hex
-  below_capitals l h = sym (or_neither (and_out_second (leb 48 b) (lt-leb b 57 l)) (or_neither (and_out_first (leb b 70) (lt-leb 65 b h)) (and_out_first (leb b 102) (lt-leb 97 b (omega arith)))))
-
-  pub a_capital : 65 ≤ b → b ≤ 70 → true ≡ is_hex b
-  unfolding is_hex
-  a_capital l h = rw (le-leb 48 b (omega arith), lt-leb b 57 (omega arith), le-leb 65 b l, le-leb b 70 h)
-
-  pub below_letters : 70 < b → b < 97 → false ≡ is_hex b
-  unfolding is_hex
-  below_letters l h = sym (or_neither (and_out_second (leb 48 b) (lt-leb b 57 (omega arith))) (or_neither (and_out_second (leb 65 b) (lt-leb b 70 l)) (and_out_first (leb b 102) (lt-leb 97 b h))))
-
-  pub a_letter : 97 ≤ b → leb b 102 ≡ is_hex b
-  unfolding is_hex
-  a_letter l = rw (le-leb 48 b (omega arith), lt-leb b 57 (omega arith), le-leb 65 b (omega arith), lt-leb b 70 (omega arith), le-leb 97 b l)
-
-  -- what one is worth
-  module _ (h : is_hex b ≡ true) where
-    pub digit_least : 48 ≤ b
-    digit_least = by_test (leb 48 b) (λ t. leb-true 48 b t) (λ f. absurd (not_both h (sym (below_digits (leb-false 48 b f)))))
-
-    pub digit_worth : b ≤ 57 → b - 48 ≡ worth b
-    unfolding worth
-    digit_worth l = rw (le-leb 48 b digit_least, le-leb b 57 l)
-
-    pub capital_least : 57 < b → 65 ≤ b
-    capital_least l = by_test (leb 65 b) (λ t. leb-true 65 b t) (λ f. absurd (not_both h (sym (below_capitals l (leb-false 65 b f)))))
-
-    pub capital_worth : 57 < b → b ≤ 70 → b - 65 + 10 ≡ worth b
-    unfolding worth
-    capital_worth l m = rw (and_out_second (leb 48 b) (lt-leb b 57 l), le-leb b 70 m) (omega (arith, capital_least l))
-
-    pub letter_least : 70 < b → 97 ≤ b
-    letter_least l = by_test (leb 97 b) (λ t. leb-true 97 b t) (λ f. absurd (not_both h (sym (below_letters l (leb-false 97 b f)))))
-
-    pub letter_worth : 70 < b → b - 97 + 10 ≡ worth b
-    unfolding worth
-    letter_worth l = rw (and_out_second (leb 48 b) (lt-leb b 57 (omega arith)), lt-leb b 70 l) (omega (arith, letter_least l))
-
-    pub letter_most : 70 < b → b - 97 + 10 ≤ 15
-    letter_most l = omega (arith, leb-true b 102 (a_letter (letter_least l) ∙ h))
+pub is_hex_is : (b : ℕ) → is_ascii_hexdigit b ≡ is_hex b
+unfolding is_hex
+is_hex_is b = or_assoc (is_digit b) (leb 65 b && leb b 70) (leb 97 b && leb b 102)
 
 -- a text of hex digits, two at a time
 module _ (s : List ℕ) where
@@ -105,7 +59,7 @@ module _ (s : List ℕ) where
   hex_long h = rw (lt-leb (length s) longest_hex h)
 
   module _ (short : length s ≤ longest_hex) (e : ℕ) (h : e ≡ run_length is_hex s) where
-    pub hex_other : (k : Refusal) → e < length s → k ≡ placed 5 e → refused k ≡ read_hex s
+    pub hex_other : (k : Numbered) → e < length s → k ≡ placed 5 e → refused k ≡ read_hex s
     unfolding read_hex unless unless_at
     hex_other k l f = rw (le-leb (length s) longest_hex short, other_found is_hex s 0 e (omega arith) l, f)
 
@@ -113,7 +67,7 @@ module _ (s : List ℕ) where
     hex_text l z = record { short = short; even = z; digits = run_all is_hex s (omega arith) }
 
     module _ (l : length s ≤ e) where
-      pub hex_odd : (k : Refusal) → (length s % 2 ≡ 0 → ⊥) → k ≡ placed 5 (length s) → refused k ≡ read_hex s
+      pub hex_odd : (k : Numbered) → (length s % 2 ≡ 0 → ⊥) → k ≡ placed 5 (length s) → refused k ≡ read_hex s
       unfolding read_hex unless unless_at fails_at
       hex_odd k n f = rw (le-leb (length s) longest_hex short, other_missing is_hex s 0 e (omega arith) l, ne_eqb (length s % 2) 0 n, f)
 

@@ -1,5 +1,4 @@
--- Runs serves every reader of the command's input, Message the callers of `read_hex`; LineEnd and Hex serve the proofs of this crate.
+-- Runs serves every reader of the command's input; LineEnd and Hex serve the proofs of this crate.
 pub mod Runs
 pub mod LineEnd
 pub mod Hex
-pub mod Message

@@ -12,13 +12,6 @@ const LINE_RETURN: u8 = 13;
 
 const LONGEST_HEX: usize = 4_000;
 
-// What a text in hex gives: how many bytes the message has that stands at the front of the lent buffer, or why there is none.
-#[derive(Clone, Copy)]
-pub enum HexGiven {
-    Length(usize),
-    Refused(Refusal),
-}
-
 // How many bytes of a line are its text: one byte 13 at its end is not.
 pub fn text_length(line: &[u8]) -> usize
     ensures upper_bound { result ≤ length line.now }
@@ -35,7 +28,7 @@ pub fn text_length(line: &[u8]) -> usize
 }
 
 // Reads a message in hex into the front of the lent buffer, which has room for the longest. Of a text that is refused no byte is written.
-pub fn read_hex(text: &[u8], message: &mut [u8]) -> HexGiven
+pub fn read_hex(text: &[u8], message: &mut [u8]) -> Result<usize, Refusal>
     requires { length message.old ≡ longest_message }
     ensures message_after { hex_answer result message.new ≡ read_hex text.now }
     ensures result_bound { hex_length result ≤ longest_message }
@@ -43,16 +36,16 @@ pub fn read_hex(text: &[u8], message: &mut [u8]) -> HexGiven
 {
     let n = text.len();
     if LONGEST_HEX < n {
-        return HexGiven::Refused(refusals::TEXT_TOO_LONG);
+        return Err(Refusal::TextTooLong);
     }
     let at = hex_end(text);
     if at < n {
-        return HexGiven::Refused(refusals::byte_not_allowed(at));
+        return Err(Refusal::ByteNotAllowed { at });
     }
     if n % 2 != 0 {
-        return HexGiven::Refused(refusals::byte_not_allowed(n));
+        return Err(Refusal::ByteNotAllowed { at: n });
     }
-    HexGiven::Length(put_message(text, message))
+    Ok(put_message(text, message))
 }
 
 // The place of the first byte that is no hex digit, or the text's length.
@@ -95,36 +88,21 @@ fn byte_of(high: u8, low: u8) -> u8
     16 * digit_of(high) + digit_of(low)
 }
 
+#[tactic(auto, unfolding(command_rules::specs::Input::is_hex, command_rules::specs::Input::worth))]
 fn digit_of(byte: u8) -> u8
     requires { is_hex byte ≡ true }
     ensures { (result ≡ worth byte) × (result ≤ 15) }
 {
-    if byte <= b'9' {
-        return byte - b'0';
+    match byte {
+        b'0'..=b'9' => byte - b'0',
+        b'A'..=b'F' => byte - b'A' + 10,
+        _ => byte - b'a' + 10,
     }
-    if byte <= b'F' {
-        return byte - b'A' + 10;
-    }
-    byte - b'a' + 10
 }
 
+#[tactic(auto, using(crate::proofs::Hex::is_hex_is))]
 fn is_hex(byte: u8) -> bool
     ensures { result ≡ is_hex byte }
 {
-    if byte < b'0' {
-        return false;
-    }
-    if byte <= b'9' {
-        return true;
-    }
-    if byte < b'A' {
-        return false;
-    }
-    if byte <= b'F' {
-        return true;
-    }
-    if byte < b'a' {
-        return false;
-    }
-    byte <= b'f'
+    byte.is_ascii_hexdigit()
 }

@@ -18,53 +18,47 @@ pub fn reached(unit: u64, counts: &[u64], times: &[i64], rates: &[u64], i: usize
 }
 
 // How many rows the next row's time is later behind.
+#[tactic(auto, using(crate::proofs::Jumps::count_begins, crate::proofs::Jumps::count_next, crate::proofs::Jumps::count_done))]
 pub fn count_gaps(unit: u64, counts: &[u64], times: &[i64], rates: &[u64]) -> u64
     requires { AllReached unit (segments counts.now times.now rates.now) }
     ensures { result ≡ count_below (is_gap unit (segments counts.now times.now rates.now)) (length counts.now) }
 {
     let mut found: u64 = 0;
-    let mut i = 0;
-    while i < counts.len() {
+    for i in 0..counts.len() {
         found += one_if(is_gap(unit, counts, times, rates, i));
-        i += 1;
     }
     found
 }
 
 // How many rows the next row's time is earlier behind.
+#[tactic(auto, using(crate::proofs::Jumps::count_begins, crate::proofs::Jumps::count_next, crate::proofs::Jumps::count_done))]
 pub fn count_steps_back(unit: u64, counts: &[u64], times: &[i64], rates: &[u64]) -> u64
     requires { AllReached unit (segments counts.now times.now rates.now) }
     ensures { result ≡ count_below (steps_back_at unit (segments counts.now times.now rates.now)) (length counts.now) }
 {
     let mut found: u64 = 0;
-    let mut i = 0;
-    while i < counts.len() {
+    for i in 0..counts.len() {
         found += one_if(is_step_back(unit, counts, times, rates, i));
-        i += 1;
     }
     found
 }
 
+#[tactic(auto, using(crate::proofs::Jumps::next_reached, crate::proofs::Jumps::next_time_in, crate::proofs::Jumps::gap_told, crate::proofs::Jumps::no_gap))]
 fn is_gap(unit: u64, counts: &[u64], times: &[i64], rates: &[u64], i: usize) -> bool
     requires all_reached { AllReached unit (segments counts.now times.now rates.now) }
     requires i_in_bounds { i < length counts.now }
     ensures { result ≡ is_gap unit (segments counts.now times.now rates.now) i }
 {
-    if i + 1 < counts.len() {
-        return reached(unit, counts, times, rates, i) < times[i + 1];
-    }
-    false
+    i + 1 < counts.len() && reached(unit, counts, times, rates, i) < times[i + 1]
 }
 
+#[tactic(auto, using(crate::proofs::Jumps::next_reached, crate::proofs::Jumps::next_time_in, crate::proofs::Jumps::back_told, crate::proofs::Jumps::no_back))]
 fn is_step_back(unit: u64, counts: &[u64], times: &[i64], rates: &[u64], i: usize) -> bool
     requires all_reached { AllReached unit (segments counts.now times.now rates.now) }
     requires i_in_bounds { i < length counts.now }
     ensures { result ≡ steps_back_at unit (segments counts.now times.now rates.now) i }
 {
-    if i + 1 < counts.len() {
-        return times[i + 1] < reached(unit, counts, times, rates, i);
-    }
-    false
+    i + 1 < counts.len() && times[i + 1] < reached(unit, counts, times, rates, i)
 }
 
 fn one_if(test: bool) -> u64

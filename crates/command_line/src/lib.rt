@@ -2,7 +2,6 @@
 #![tactic(auto)]
 
 ghost use Rattle.std.specs.Prelude.{◌≡◌, ◌+◌, ◌≤◌, length, take};
-ghost use Rattle.rules.specs.Answer.{stamp_answer};
 ghost use Rattle.rules.specs.Partitions.{partitions};
 ghost use Rattle.rules.specs.Segments.{segments};
 ghost use Rattle.rules.specs.StampTime.{time_of_message};
@@ -11,14 +10,15 @@ ghost use Rattle.command_rules.specs.Lines.{message_by, stamp_line, count_line, 
 ghost use Rattle.command_answers.specs.Put.{longest_line, PutLine};
 ghost use Rattle.succession_rules.specs.OfTwo.{table_of};
 ghost use Rattle.command_line.specs.Ready.{Ready};
+ghost use Rattle.rules.specs.Answer.{answer_of};
 
 use accepted_calls::{message_time, stamp_time, time_count};
 use command_answers::{Put, put_count, put_print, put_refused, put_timed};
 use command_compared::put_compared;
-use command_input::{HexGiven, read_hex, text_length};
-use command_numbers::{CountGiven, TimeGiven, read_count, read_time};
+use command_input::{read_hex, text_length};
+use command_numbers::{read_count, read_time};
 use command_rules::Query;
-use rules::{Layout, StampAnswer};
+use rules::{Layout, Refusal, TimedStamp};
 use tables::Basis;
 
 // A query of one table asks the older.
@@ -213,17 +213,15 @@ fn hex_time(
     times: &[i64],
     rates: &[u64],
     text: &[u8],
-) -> StampAnswer
+) -> Result<TimedStamp, Refusal>
     requires { TableFacts layout (partitions starts.now ends.now) (segments counts.now times.now rates.now) basis }
-    ensures { stamp_answer result ≡ message_by (table_of layout starts.now ends.now counts.now times.now rates.now) text.now }
+    ensures { answer_of result ≡ message_by (table_of layout starts.now ends.now counts.now times.now rates.now) text.now }
 {
     let mut message = [0u8; 2000];
-    match read_hex(text, &mut message) {
-        HexGiven::Length(n) => front_time(
-            layout, basis, starts, ends, counts, times, rates, &message, n,
-        ),
-        HexGiven::Refused(k) => StampAnswer::Refused(k),
-    }
+    let n = read_hex(text, &mut message)?;
+    front_time(
+        layout, basis, starts, ends, counts, times, rates, &message, n,
+    )
 }
 
 // The message is the first `n` bytes of the buffer.
@@ -237,10 +235,10 @@ fn front_time(
     rates: &[u64],
     buffer: &[u8],
     n: usize,
-) -> StampAnswer
+) -> Result<TimedStamp, Refusal>
     requires table_facts { TableFacts layout (partitions starts.now ends.now) (segments counts.now times.now rates.now) basis }
     requires n_in_bounds { n ≤ length buffer.now }
-    ensures { stamp_answer result ≡ time_of_message layout (partitions starts.now ends.now) (segments counts.now times.now rates.now) (take n buffer.now) }
+    ensures { answer_of result ≡ time_of_message layout (partitions starts.now ends.now) (segments counts.now times.now rates.now) (take n buffer.now) }
 {
     message_time(
         layout,
@@ -269,8 +267,8 @@ fn put_stamp_line(
     ensures { PutLine (stamp_line layout (partitions starts.now ends.now) text.now) result at out.old out.new }
 {
     match read_count(text) {
-        CountGiven::Count(e) => put_print(layout, basis, starts, ends, e, out, at),
-        CountGiven::Refused(k) => put_refused(out, at, k),
+        Ok(e) => put_print(layout, basis, starts, ends, e, out, at),
+        Err(k) => put_refused(out, at, k),
     }
 }
 
@@ -293,11 +291,11 @@ fn put_count_line(
     ensures { PutLine (count_line seconds (table_of layout starts.now ends.now counts.now times.now rates.now) text.now) result at out.old out.new }
 {
     match read_time(text, seconds) {
-        TimeGiven::Time(t) => put_count(
+        Ok(t) => put_count(
             time_count(layout, basis, starts, ends, counts, times, rates, t),
             out,
             at,
         ),
-        TimeGiven::Refused(k) => put_refused(out, at, k),
+        Err(k) => put_refused(out, at, k),
     }
 }

@@ -12,7 +12,7 @@ use Rattle.lines.specs.Steps.{line_left, last_line, next_line, line_after}
 use Rattle.decimal.specs.Writing.{Written}
 use Rattle.decimal.proofs.LeftToRight.{nothing_written}
 use Rattle.line_output.specs.Output.{well_of}
-use Rattle.line_output.specs.Pieces.{ended_in, piece_answers, ended_line, ended_answer, last_answer}
+use Rattle.line_output.specs.Pieces.{ended_in, piece_answers, ended_line, ended_answer}
 use Rattle.line_output.proofs.Lines.{well_none, well_one, last_some, last_none, ended_none, answered_none, next_left, next_well, next_answers}
 use Rattle.command_rules.specs.declared.Query.{Query}
 use Rattle.command_rules.specs.Lines.{line_of, line_text, line_well, line_buffer}

@@ -7,8 +7,7 @@ use native.Mathlib.Omega.{arith}
 use borrow.Author.Tests.{le-leb, lt-leb}
 use Rattle.rules.specs.Limits.{longest_text}
 use Rattle.rules.specs.Text.{is_digit}
-use Rattle.rules.specs.declared.Refusal.{Refusal}
-use Rattle.rules.specs.Answer.{answer, refused, refuse, placed, unless, unless_at}
+use Rattle.rules.specs.Answer.{answer, refused, refuse, placed, unless, unless_at, Numbered}
 use Rattle.command_rules.specs.Input.{spelled, read_count}
 use Rattle.command_input.specs.Runs.{run_length}
 use Rattle.command_input.proofs.Runs.{other_found, other_missing}
@@ -20,7 +19,7 @@ module _ (s : List ℕ) where
   count_long h = rw (lt-leb (length s) longest_text h)
 
   module _ (short : length s ≤ longest_text) (e : ℕ) (h : e ≡ 0 + run_length is_digit (drop 0 s)) where
-    pub count_other : (k : Refusal) → e < length s → k ≡ placed 5 e → refused k ≡ capped_count (read_count s)
+    pub count_other : (k : Numbered) → e < length s → k ≡ placed 5 e → refused k ≡ capped_count (read_count s)
     unfolding read_count unless unless_at capped_count
     count_other k l f = rw (le-leb (length s) longest_text short, other_found is_digit s 0 e h l, f)
 

@@ -1,4 +1,6 @@
 -- For callers: a count or a time that is capped is answered as it would be without the cap.
+use Rattle.rules.specs.declared.refusal.Refusal.{Refusal}
+use Rattle.std.specs.Prelude.{Result, Ok, Err}
 use Prim.Native.Nat.{ℕ, ◌-◌, ◌≤◌, ◌<◌, min}
 use mathlib.Core.Path.{◌≡◌, refl, sym, ap, ◌∙◌}
 use mathlib.Core.Bool.{true, false, ◌&&◌}
@@ -10,9 +12,7 @@ use borrow.Author.Tests.{lt-leb, leb-true, leb-false}
 use Rattle.base.proofs.Tests.{by_test, not_both, and_both, and_first, and_out_first}
 use Rattle.rules.specs.Limits.{earliest_time, latest_time}
 use Rattle.rules.specs.declared.Layout.{Layout}
-use Rattle.rules.specs.declared.Refusal.{Refusal}
-use Rattle.rules.specs.declared.CountAtTime.{CountAtTime}
-use Rattle.rules.specs.Answer.{Answer, answer, refused, unless, and_then}
+use Rattle.rules.specs.Answer.{Answer, answer, refused, unless, and_then, Numbered, as_numbered, answer_of}
 use Rattle.rules.proofs.Answers.{payload, not_answer}
 use Rattle.rules.specs.Partitions.{Partitions, total_of}
 use Rattle.rules.specs.Segments.{Segments}
@@ -21,11 +21,7 @@ use Rattle.rules.specs.Print.{fitting, stamp_print, print_stamp}
 use Rattle.rules.specs.Time.{count_in, count_at}
 use Rattle.tables.specs.declared.Basis.{Basis}
 use Rattle.tables.specs.Accept.{StampsFacts}
-use Rattle.command_numbers.specs.declared.CountGiven.{CountGiven}
-use Rattle.command_numbers.specs.declared.CountGiven.TheVariants as Counts
-use Rattle.command_numbers.specs.declared.TimeGiven.{TimeGiven}
-use Rattle.command_numbers.specs.declared.TimeGiven.TheVariants as Times
-use Rattle.command_numbers.specs.Given.{number_cap, near_count, near_time, given_count, given_time, capped_count, capped_time}
+use Rattle.command_numbers.specs.Given.{number_cap, near_count, near_time, capped_count, capped_time}
 
 -- a count up to a total, under the cap and without it
 near_count_lem : {A : Type 0} (total n : ℕ) (f : ℕ → Answer A) → total < number_cap → unless 12 (leb (near_count n) total) (f (near_count n)) ≡ unless 12 (leb n total) (f n)
@@ -74,17 +70,17 @@ module _ {A : Type 0} (f : ℕ → Answer A) where
   count_answered same (answer m) n g = ap f (payload g) ∙ same m
   count_answered same (refused k) n g = absurd (not_answer (sym g))
 
-  count_passed : (a : Answer ℕ) (k : Refusal) → refused k ≡ capped_count a → refused k ≡ and_then a f
+  count_passed : (a : Answer ℕ) (k : Numbered) → refused k ≡ capped_count a → refused k ≡ and_then a f
   unfolding capped_count and_then
   count_passed (answer m) k g = absurd (not_answer g)
   count_passed (refused j) k g = cc
 
-  module _ (q : CountGiven) (a : Answer ℕ) (e : given_count q ≡ capped_count a) where
-    pub count_then : ((n : ℕ) → f (near_count n) ≡ f n) → (n : ℕ) → q ≡ Counts.Count n → f n ≡ and_then a f
+  module _ (q : Result ℕ Refusal) (a : Answer ℕ) (e : answer_of q ≡ capped_count a) where
+    pub count_then : ((n : ℕ) → f (near_count n) ≡ f n) → (n : ℕ) → q ≡ Ok n → f n ≡ and_then a f
     count_then same n h = count_answered same a n (rw h at e)
 
-    pub count_refused : (k : Refusal) → q ≡ Counts.Refused k → refused k ≡ and_then a f
-    count_refused k h = count_passed a k (rw h at e)
+    pub count_refused : (k : Refusal) → q ≡ Err k → refused (as_numbered k) ≡ and_then a f
+    count_refused k h = count_passed a (as_numbered k) (rw h at e)
 
 -- the same of a time
 module _ {A : Type 0} (f : ℤ → Answer A) where
@@ -93,24 +89,14 @@ module _ {A : Type 0} (f : ℤ → Answer A) where
   time_answered same (answer m) t g = ap f (payload g) ∙ same m
   time_answered same (refused k) t g = absurd (not_answer (sym g))
 
-  time_passed : (a : Answer ℤ) (k : Refusal) → refused k ≡ capped_time a → refused k ≡ and_then a f
+  time_passed : (a : Answer ℤ) (k : Numbered) → refused k ≡ capped_time a → refused k ≡ and_then a f
   unfolding capped_time and_then
   time_passed (answer m) k g = absurd (not_answer g)
   time_passed (refused j) k g = cc
 
-  module _ (q : TimeGiven) (a : Answer ℤ) (e : given_time q ≡ capped_time a) where
-    pub time_then : ((t : ℤ) → f (near_time t) ≡ f t) → (t : ℤ) → q ≡ Times.Time t → f t ≡ and_then a f
+  module _ (q : Result ℤ Refusal) (a : Answer ℤ) (e : answer_of q ≡ capped_time a) where
+    pub time_then : ((t : ℤ) → f (near_time t) ≡ f t) → (t : ℤ) → q ≡ Ok t → f t ≡ and_then a f
     time_then same t h = time_answered same a t (rw h at e)
 
-    pub time_refused : (k : Refusal) → q ≡ Times.Refused k → refused k ≡ and_then a f
-    time_refused k h = time_passed a k (rw h at e)
-
--- the stamp of a count that was read, under accepted tables
-module _ (l : Layout) (p : Partitions) (b : Basis) (w : StampsFacts l p b) (q : CountGiven) (a : Answer ℕ) (n : ℕ) (e : given_count q ≡ capped_count a) (h : q ≡ Counts.Count n) where
-  pub stamp_read : (room : ℕ) → print_stamp l p n room ≡ and_then a (λ e. print_stamp l p e room)
-  stamp_read room = count_then (λ n. print_stamp l p n room) q a e (λ n. print_near l p b w n room) n h
-
--- the count at a time that was read, of any tables
-module _ (l : Layout) (p : Partitions) (g : Segments) (q : TimeGiven) (a : Answer ℤ) (t : ℤ) (e : given_time q ≡ capped_time a) (h : q ≡ Times.Time t) where
-  pub count_read : (x : Answer CountAtTime) → x ≡ count_at l p g t → x ≡ and_then a (count_at l p g)
-  count_read x d = d ∙ time_then (count_at l p g) q a e (count_near l p g) t h
+    pub time_refused : (k : Refusal) → q ≡ Err k → refused (as_numbered k) ≡ and_then a f
+    time_refused k h = time_passed a (as_numbered k) (rw h at e)

@@ -1,11 +1,14 @@
 -- The sign in front, and a number with its sign.
 use Prim.Native.Nat.{ℕ, zero, suc, ◌+◌, ◌-◌, ◌^◌, ◌≤◌, min}
+use Rattle.std.specs.List.{starts_with}
+use Rattle.std.proofs.lemmas.Bool.Decides.{nat_tests}
+use mathlib.Core.Bool.{and-true}
 use mathlib.Core.Path.{◌≡◌, refl, sym, ◌∙◌}
 use mathlib.Core.Bool.{Bool, true, false}
 use mathlib.Core.List.{List, [], ◌∷◌}
 use lib.Dec.{eqb}
 use lib.IntN.{ℤ, pos, negsuc}
-use lib.ListN.{length, get_or, get_or-eq_default}
+use lib.ListN.{length}
 use mir.Syntax.{w64}
 use mir.Val.{SFits}
 use native.Mathlib.Omega.{arith}
@@ -14,15 +17,12 @@ use Rattle.base.proofs.Tests.{not_both}
 use Rattle.command_rules.specs.Input.{is_minus, sign_length, with_sign}
 use Rattle.command_numbers.specs.Given.{number_cap, near_time}
 
+pub minus_at : (s : List ℕ) → starts_with eqb s (45 ∷ []) ≡ is_minus s
+unfolding is_minus
+minus_at [] = refl
+minus_at (b ∷ s) = and-true (eqb 45 b) ∙ grind (arith, nat_tests)
+
 module _ (s : List ℕ) where
-  pub no_minus : length s ≡ 0 → false ≡ is_minus s
-  unfolding is_minus
-  no_minus h = let l : length s ≤ 0 = omega arith in rw (get_or-eq_default s 0 l)
-
-  pub minus_at : eqb (get_or s 0 0) 45 ≡ is_minus s
-  unfolding is_minus
-  minus_at = refl
-
   module _ (t : Bool) (e : t ≡ is_minus s) where
     pub sign_one : t ≡ true → 1 ≡ sign_length s
     unfolding sign_length

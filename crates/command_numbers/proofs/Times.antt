@@ -15,8 +15,7 @@ use borrow.Author.Tests.{le-leb, lt-leb, not-true, not-false}
 use Rattle.base.specs.Scans.{all}
 use Rattle.rules.specs.Limits.{longest_text}
 use Rattle.rules.specs.Text.{is_digit}
-use Rattle.rules.specs.declared.Refusal.{Refusal}
-use Rattle.rules.specs.Answer.{Answer, answer, refused, refuse, placed, unless, unless_at}
+use Rattle.rules.specs.Answer.{Answer, answer, refused, refuse, placed, unless, unless_at, Numbered}
 use Rattle.command_rules.specs.Input.{spelled, spelled_from, is_minus, sign_length, unsigned, with_sign, read_time, whole_part, nanoseconds, is_exact, read_seconds, read_time_by}
 use Rattle.command_input.specs.Runs.{run_length}
 use Rattle.command_input.proofs.Runs.{other_found, other_missing}
@@ -66,7 +65,7 @@ module _ (s : List ℕ) (i : ℕ) (hi : i ≡ sign_length s) where
 
   -- in nanoseconds: the digits end at e
   module _ (short : length s ≤ longest_text) (e : ℕ) (he : e ≡ i + run_length is_digit (drop i s)) where
-    pub time_other : (k : Refusal) → e < length s → k ≡ placed 5 e → refused k ≡ capped_time (read_time s)
+    pub time_other : (k : Numbered) → e < length s → k ≡ placed 5 e → refused k ≡ capped_time (read_time s)
     unfolding read_time unless unless_at capped_time
     time_other k l f = rw (le-leb (length s) longest_text short, rest_is, ← hi, other_found is_digit s i e he l, f)
 
@@ -84,7 +83,7 @@ module _ (s : List ℕ) (i : ℕ) (hi : i ≡ sign_length s) where
 
   -- in seconds: the whole ones end at q, the decimals begin at a and end at e
   module _ (q a e : ℕ) (hq : q ≡ i + run_length is_digit (drop i s)) (ha : a ≡ point_end s q) (he : e ≡ a + run_length is_digit (drop a s)) (short : length s ≤ longest_text) where
-    pub seconds_other : (k : Refusal) → e < length s → k ≡ placed 5 e → refused k ≡ capped_time (read_seconds s)
+    pub seconds_other : (k : Numbered) → e < length s → k ≡ placed 5 e → refused k ≡ capped_time (read_seconds s)
     unfolding read_seconds unless unless_at capped_time
     seconds_other k l f = rw (le-leb (length s) longest_text short, rest_is, ← hi, fault_found s i q a e hq ha he l, f)
 

@@ -1,18 +1,6 @@
 -- What reading a count and a time answers: what the definitions read, with numbers up to a cap.
 use Rattle.std.specs.Prelude.{ℕ, ◌-◌, min, ℤ, pos, negsuc}
 use Rattle.rules.specs.Answer.{Answer, answer, refused}
-use Rattle.command_numbers.specs.declared.CountGiven.{CountGiven}
-use Rattle.command_numbers.specs.declared.CountGiven.TheVariants as Counts
-use Rattle.command_numbers.specs.declared.TimeGiven.{TimeGiven}
-use Rattle.command_numbers.specs.declared.TimeGiven.TheVariants as Times
-
-abbrev pub given_count : CountGiven → Answer ℕ
-given_count (Counts.Count n) = answer n
-given_count (Counts.Refused k) = refused k
-
-abbrev pub given_time : TimeGiven → Answer ℤ
-given_time (Times.Time t) = answer t
-given_time (Times.Refused k) = refused k
 
 -- only code caps: above the largest total and the latest time
 abbrev pub number_cap : ℕ

@@ -8,8 +8,9 @@ ghost use Rattle.rules.specs.Limits.{longest_text};
 ghost use Rattle.rules.specs.Text.{is_digit};
 ghost use Rattle.command_rules.specs.Input.{spelled, spelled_from, read_count, is_minus, sign_length, with_sign, read_time, read_seconds, read_time_by};
 ghost use Rattle.command_input.specs.Runs.{run_length};
-ghost use Rattle.command_numbers.specs.Given.{number_cap, given_count, given_time, capped_count, capped_time};
+ghost use Rattle.command_numbers.specs.Given.{number_cap, capped_count, capped_time};
 ghost use Rattle.command_numbers.specs.Places.{point_end, nine_decimals, number_at};
+ghost use Rattle.rules.specs.Answer.{answer_of};
 
 use layouts::limits::LONGEST_TEXT;
 use rules::Refusal;
@@ -24,39 +25,27 @@ const ZERO: u64 = 0x8000_0000_0000_0000;
 // A nanosecond is the ninth decimal of a second.
 const DECIMALS: usize = 9;
 
-#[derive(Clone, Copy)]
-pub enum CountGiven {
-    Count(u64),
-    Refused(Refusal),
-}
-
-#[derive(Clone, Copy)]
-pub enum TimeGiven {
-    Time(i64),
-    Refused(Refusal),
-}
-
 // An encoded count.
-pub fn read_count(text: &[u8]) -> CountGiven
-    ensures { given_count result ≡ capped_count (read_count text.now) }
+pub fn read_count(text: &[u8]) -> Result<u64, Refusal>
+    ensures { answer_of result ≡ capped_count (read_count text.now) }
 {
     let n = text.len();
     if LONGEST_TEXT < n {
-        return CountGiven::Refused(refusals::TEXT_TOO_LONG);
+        return Err(Refusal::TextTooLong);
     }
     let at = digits_end(text, 0);
     if at < n {
-        return CountGiven::Refused(refusals::byte_not_allowed(at));
+        return Err(Refusal::ByteNotAllowed { at });
     }
     if n == 0 {
-        return CountGiven::Refused(refusals::FIRST_FIELD_MISSING);
+        return Err(Refusal::FirstFieldMissing);
     }
-    CountGiven::Count(number(text))
+    Ok(number(text))
 }
 
 // A time, in seconds or in nanoseconds.
-pub fn read_time(text: &[u8], seconds: bool) -> TimeGiven
-    ensures { given_time result ≡ capped_time (read_time_by seconds text.now) }
+pub fn read_time(text: &[u8], seconds: bool) -> Result<i64, Refusal>
+    ensures { answer_of result ≡ capped_time (read_time_by seconds text.now) }
 {
     if seconds {
         return seconds_in(text);
@@ -64,44 +53,44 @@ pub fn read_time(text: &[u8], seconds: bool) -> TimeGiven
     nanoseconds_in(text)
 }
 
-fn nanoseconds_in(text: &[u8]) -> TimeGiven
-    ensures { given_time result ≡ capped_time (read_time text.now) }
+fn nanoseconds_in(text: &[u8]) -> Result<i64, Refusal>
+    ensures { answer_of result ≡ capped_time (read_time text.now) }
 {
     let n = text.len();
     if LONGEST_TEXT < n {
-        return TimeGiven::Refused(refusals::TEXT_TOO_LONG);
+        return Err(Refusal::TextTooLong);
     }
     let first = sign_length(text);
     let at = digits_end(text, first);
     if at < n {
-        return TimeGiven::Refused(refusals::byte_not_allowed(at));
+        return Err(Refusal::ByteNotAllowed { at });
     }
     if n <= first {
-        return TimeGiven::Refused(refusals::FIRST_FIELD_MISSING);
+        return Err(Refusal::FirstFieldMissing);
     }
-    TimeGiven::Time(with_sign(is_minus(text), number(&text[first..n])))
+    Ok(with_sign(is_minus(text), number(&text[first..n])))
 }
 
-fn seconds_in(text: &[u8]) -> TimeGiven
-    ensures { given_time result ≡ capped_time (read_seconds text.now) }
+fn seconds_in(text: &[u8]) -> Result<i64, Refusal>
+    ensures { answer_of result ≡ capped_time (read_seconds text.now) }
 {
     if LONGEST_TEXT < text.len() {
-        return TimeGiven::Refused(refusals::TEXT_TOO_LONG);
+        return Err(Refusal::TextTooLong);
     }
     let first = sign_length(text);
     let point = digits_end(text, first);
     let decimal = point_end(text, point);
     let at = digits_end(text, decimal);
     if at < text.len() {
-        return TimeGiven::Refused(refusals::byte_not_allowed(at));
+        return Err(Refusal::ByteNotAllowed { at });
     }
     if point <= first {
-        return TimeGiven::Refused(refusals::FIRST_FIELD_MISSING);
+        return Err(Refusal::FirstFieldMissing);
     }
     if !all_zeros(text, decimal + DECIMALS) {
-        return TimeGiven::Refused(refusals::NOT_EXACT);
+        return Err(Refusal::NotExact);
     }
-    TimeGiven::Time(time_at(text, first, point, decimal))
+    Ok(time_at(text, first, point, decimal))
 }
 
 // The time whose whole seconds stand from `first` to `point`, and whose decimals from `decimal` on.
@@ -121,7 +110,7 @@ fn digits_end(text: &[u8], from: usize) -> usize
 {
     let mut at = from;
     while at < text.len() {
-        if !is_digit(text[at]) {
+        if !text[at].is_ascii_digit() {
             return at;
         }
         at += 1;
@@ -174,26 +163,17 @@ fn next_value(x: u64, d: u8) -> u64
     if CAP_TENTH <= x {
         return CAP;
     }
-    let next = 10 * x + widened(d);
+    let next = 10 * x + u64::from(d);
     if CAP < next {
         return CAP;
     }
     next
 }
 
-fn widened(x: u8) -> u64
-    ensures { result ≡ x }
-{
-    x as u64
-}
-
 fn digit_value(byte: u8) -> u8
     ensures { result ≡ byte - 48 }
 {
-    if byte < b'0' {
-        return 0;
-    }
-    byte - b'0'
+    byte.saturating_sub(b'0')
 }
 
 fn with_sign(minus: bool, n: u64) -> i64
@@ -216,25 +196,22 @@ fn sign_length(text: &[u8]) -> usize
     0
 }
 
+#[tactic(auto, using(crate::proofs::Signs::minus_at))]
 fn is_minus(text: &[u8]) -> bool
     ensures { result ≡ is_minus text.now }
 {
-    if text.len() == 0 {
-        return false;
-    }
-    text[0] == b'-'
+    text.starts_with(b"-")
 }
 
 // The place behind a point that stands at `at`, or `at` itself.
+#[tactic(auto, using(crate::proofs::Points::point_past), unfolding(crate::specs::Places::point_end))]
 fn point_end(text: &[u8], at: usize) -> usize
     requires { at ≤ length text.now }
     ensures value { result ≡ point_end text.now at }
     ensures upper_bound { result ≤ length text.now }
 {
-    if at < text.len() {
-        if text[at] == b'.' {
-            return at + 1;
-        }
+    if at < text.len() && text[at] == b'.' {
+        return at + 1;
     }
     at
 }
@@ -251,13 +228,4 @@ fn all_zeros(text: &[u8], from: usize) -> bool
         i += 1;
     }
     true
-}
-
-fn is_digit(byte: u8) -> bool
-    ensures { result ≡ is_digit byte }
-{
-    if byte < b'0' {
-        return false;
-    }
-    byte <= b'9'
 }

@@ -7,9 +7,8 @@ use mathlib.Core.List.{List, ◌∷◌}
 use mathlib.Core.Logic.{⊎_elim}
 use lib.Dec.{eqb}
 use borrow.Author.Tests.{eq-eqb}
-use Rattle.rules.specs.declared.Refusal.{Refusal}
 use Rattle.rules.specs.declared.TimedStamp.{TimedStamp}
-use Rattle.rules.specs.Answer.{Answer, answer, refused, numbered}
+use Rattle.rules.specs.Answer.{Answer, answer, refused, numbered, Numbered}
 use Rattle.rules.specs.Partitions.{total_of}
 use Rattle.rules.specs.Examples.{bytes}
 use Rattle.rules.proofs.Answers.{payload, not_answer}
@@ -31,7 +30,7 @@ module _ (seconds : Bool) where
   unfolding compare_line both_line
   both_same a b e = (last_field (both_fields seconds a), rw (e, eq-eqb a.count a.count refl, eq_eq_z a.time a.time refl))
 
-  refused_both : (j k : Refusal) (t : Bool) → (t ≡ false → (j ≡ numbered 10) × (k ≡ numbered 11)) → NotMisled (refused_line j k t).text
+  refused_both : (j k : Numbered) (t : Bool) → (t ≡ false → (j ≡ numbered 10) × (k ≡ numbered 11)) → NotMisled (refused_line j k t).text
   unfolding refused_line
   refused_both j k true h = says_same (_, refl)
   refused_both j k false h = both_refuse (rw ((h refl).0, (h refl).1))

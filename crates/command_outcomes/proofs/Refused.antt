@@ -11,8 +11,7 @@ use borrow.Author.Tests.{eq-eqb, leb-true, leb-false, le-leb}
 use Rattle.base.proofs.Tests.{by_test, not_both, and_both, and_first, and_second}
 use Rattle.base.proofs.Scans.{last_or, last_is}
 use Rattle.rules.specs.declared.Reading.{Reading}
-use Rattle.rules.specs.declared.Refusal.{Refusal}
-use Rattle.rules.specs.Answer.{Answer, answer, refused, numbered, reading, unless, and_then}
+use Rattle.rules.specs.Answer.{Answer, answer, refused, numbered, reading, unless, and_then, Numbered}
 use Rattle.rules.specs.Layout.{moduli_of, offsets_of, unit_of}
 use Rattle.rules.specs.Partitions.{Partitions, partitions_in, total_of}
 use Rattle.rules.specs.Segments.{Segments, segments_in, row_of}
@@ -36,21 +35,21 @@ use Rattle.command_outcomes.proofs.Agreement.{answer_to, timed_by, answer_is, li
 
 -- what two refusals are whose numbers differ
 abbrev pub TenEleven : {A : Type 0} → Answer A → Answer A → Type 0
-TenEleven a b = (j k : Refusal) → a ≡ refused j → b ≡ refused k → eqb j.number k.number ≡ false → (j ≡ numbered 10) × (k ≡ numbered 11)
+TenEleven a b = (j k : Numbered) → a ≡ refused j → b ≡ refused k → eqb j.number k.number ≡ false → (j ≡ numbered 10) × (k ≡ numbered 11)
 
 -- a refusal is one, and no answer
 module _ {A : Type 0} where
-  which : {i j : Refusal} → ◌≡◌ {A = Answer A} (refused i) (refused j) → i ≡ j
+  which : {i j : Numbered} → ◌≡◌ {A = Answer A} (refused i) (refused j) → i ≡ j
   which q = cc
 
-  not_refused : {x : A} {k : Refusal} → ◌≡◌ {A = Answer A} (answer x) (refused k) → ⊥
+  not_refused : {x : A} {k : Numbered} → ◌≡◌ {A = Answer A} (answer x) (refused k) → ⊥
   not_refused h = not_answer (sym h)
 
 -- two that have one number
-one_number : {n : ℕ} (j k : Refusal) → j.number ≡ n → k.number ≡ n → eqb j.number k.number ≡ false → ⊥
+one_number : {n : ℕ} (j k : Numbered) → j.number ≡ n → k.number ≡ n → eqb j.number k.number ≡ false → ⊥
 one_number {n} j k a b d = not_both (eq-eqb j.number k.number (a ∙ sym b)) d
 
-one_refusal : {A : Type 0} {i j k : Refusal} → ◌≡◌ {A = Answer A} (refused i) (refused j) → ◌≡◌ {A = Answer A} (refused i) (refused k) → eqb j.number k.number ≡ false → ⊥
+one_refusal : {A : Type 0} {i j k : Numbered} → ◌≡◌ {A = Answer A} (refused i) (refused j) → ◌≡◌ {A = Answer A} (refused i) (refused k) → eqb j.number k.number ≡ false → ⊥
 one_refusal {A} {i} {j} {k} a b d = one_number {n = i.number} j k (ap (λ r. r.number) (sym (which a))) (ap (λ r. r.number) (sym (which b))) d
 
 pair_unless : {A : Type 0} {a b : Answer A} (n : ℕ) (t : Bool) → TenEleven a b → TenEleven (unless n t a) (unless n t b)
@@ -76,7 +75,7 @@ named_pair true true false true x y up = λ j k a b d. absurd (not_refused b)
 named_pair true true true i x y up = λ j k a b d. absurd (not_refused a)
 
 -- a count in no partition
-found_eleven : (p : Partitions) (c : ℕ) (o : Option ℕ) (j : Refusal) → and_then (encode_found p c o) (λ e. answer (reading e)) ≡ refused j → j.number ≡ 11
+found_eleven : (p : Partitions) (c : ℕ) (o : Option ℕ) (j : Numbered) → and_then (encode_found p c o) (λ e. answer (reading e)) ≡ refused j → j.number ≡ 11
 unfolding encode_found and_then
 found_eleven p c none j h = ap (λ r. r.number) (sym (which h))
 found_eleven p c (some i) j h = absurd (not_refused h)
@@ -93,12 +92,12 @@ module _ (p q : Partitions) (more : partitions_in p ≤ partitions_in q) where
   encode_pair (unnamed r) = λ j k a b d. absurd (one_number {n = 11} j k (found_eleven p r.count _ j a) (found_eleven q r.count _ k b) d)
 
 -- a count within the total is refused 13 or not at all
-on_thirteen : (unit : ℕ) (g : Segments) (e : ℕ) (j : Refusal) (o : Option ℕ) → with_time e (time_on unit g e o) ≡ refused j → (o ≡ none) × (j.number ≡ 13)
+on_thirteen : (unit : ℕ) (g : Segments) (e : ℕ) (j : Numbered) (o : Option ℕ) → with_time e (time_on unit g e o) ≡ refused j → (o ≡ none) × (j.number ≡ 13)
 unfolding with_time time_on and_then
 on_thirteen unit g e j none h = (refl, ap (λ r. r.number) (sym (which h)))
 on_thirteen unit g e j (some i) h = absurd (not_refused h)
 
-within_thirteen : (t : Table) → Accepted t → (e : ℕ) → leb e (total_of t.partitions) ≡ true → (j : Refusal) → with_time e (time_by t e) ≡ refused j → (segment_of t.segments.counts e ≡ none) × (j.number ≡ 13)
+within_thirteen : (t : Table) → Accepted t → (e : ℕ) → leb e (total_of t.partitions) ≡ true → (j : Numbered) → with_time e (time_by t e) ≡ refused j → (segment_of t.segments.counts e ≡ none) × (j.number ≡ 13)
 unfolding time_of time_in unless
 within_thirteen t ok e b j h = on_thirteen (unit_of t.layout) t.segments e j (segment_of t.segments.counts e) (rw (through_three t ok, b) at h)
 
@@ -162,7 +161,7 @@ module _ (older newer : Table) (both : Succeeds older newer) (d : Demand3 older 
   line_pair true l = pair_then (read_hex (without_return l)) _ _ message_pair
 
   -- what only the newer reads is not below the older's total
-  beyond : (hex : Bool) (l : List ℕ) (r : Reading) (j : Refusal) → read_line hex older l ≡ refused j → read_line hex newer l ≡ answer r → total_of older.partitions ≤ r.count
+  beyond : (hex : Bool) (l : List ℕ) (r : Reading) (j : Numbered) → read_line hex older l ≡ refused j → read_line hex newer l ≡ answer r → total_of older.partitions ≤ r.count
   beyond hex l r j o n =
       by_test (leb (total_of older.partitions) r.count)
       (λ t. leb-true _ _ t)

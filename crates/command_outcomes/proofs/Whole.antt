@@ -1,23 +1,21 @@
 -- A line that the line buffer does not hold is refused 4, whatever is asked of it; so what the buffer keeps of a line is enough.
-use Prim.Native.Nat.{ℕ, ◌+◌, ◌-◌, ◌≤◌, ◌<◌}
-use mathlib.Core.Path.{◌≡◌, refl, ap, ◌∙◌}
+use Prim.Native.Nat.{ℕ, ◌+◌, ◌-◌, ◌<◌}
+use mathlib.Core.Path.{◌≡◌, ap}
 use mathlib.Core.Bool.{Bool, true, false}
 use mathlib.Core.List.{List}
 use lib.Dec.{eqb}
-use lib.ListN.{length, get_or, take, length-take}
+use lib.ListN.{length, get_or, length-take}
 use borrow.Author.Tests.{lt-leb}
 use native.Mathlib.Omega.{arith}
 use Rattle.base.proofs.Scans.{nothing}
 use Rattle.base.proofs.Tests.{by_test}
-use Rattle.rules.specs.declared.TimedStamp.{TimedStamp}
 use Rattle.rules.specs.Limits.{longest_text}
-use Rattle.rules.specs.Answer.{Answer, refuse, unless, unless_at, and_then}
+use Rattle.rules.specs.Answer.{refuse, unless, unless_at, and_then}
 use Rattle.rules.specs.Layout.{product_of}
 use Rattle.rules.specs.Partitions.{partitions_fault}
 use Rattle.rules.specs.Stamp.{read_stamp, parse_stamp}
 use Rattle.rules.specs.StampTime.{time_of_stamp}
 use Rattle.versions.specs.Versions.{Table, Accepted}
-use Rattle.lines.specs.Lines.{kept_of}
 use Rattle.lines.proofs.Whole.{enough}
 use Rattle.line_output.specs.Pieces.{Enough}
 use Rattle.line_output.proofs.Whole.{whole_output, whole_well}

@@ -2,8 +2,7 @@
 use Rattle.std.specs.Prelude.{ℕ, ◌<◌, ◌≡◌, Bool, true, false, List, ◌⊎◌}
 use Rattle.base.specs.Scans.{among}
 use Rattle.rules.specs.declared.Reading.{Reading}
-use Rattle.rules.specs.declared.Refusal.{Refusal}
-use Rattle.rules.specs.Answer.{Answer, answer, numbered, and_then}
+use Rattle.rules.specs.Answer.{Answer, answer, numbered, and_then, Numbered}
 use Rattle.rules.specs.Message.{read_message}
 use Rattle.rules.specs.Examples.{bytes}
 use Rattle.versions.specs.Versions.{Table, read_by, older_refuses_stamp}
@@ -39,7 +38,7 @@ pub data NotMisled (text : List ℕ) : Type 0 where
   -- "Where the older answers, the newer gives the same answer"; or both refuse with one number
   says_same : SaysSame text → NotMisled text
   -- "Where only the newer answers, the older refuses: a stamp with 10 or 11"
-  older_refuses : (k : Refusal) (rest : List ℕ) → among k.number older_refuses_stamp ≡ true → text ≡ field (bytes "older refuses") (field (refusal_text k) rest) → NotMisled text
+  older_refuses : (k : Numbered) (rest : List ℕ) → among k.number older_refuses_stamp ≡ true → text ≡ field (bytes "older refuses") (field (refusal_text k) rest) → NotMisled text
   -- both refuse with two numbers: the older has no such partition, and the newer's does not hold the count
   both_refuse : text ≡ field (bytes "refused") (field (refusal_text (numbered 10)) (last_field (refusal_text (numbered 11)))) → NotMisled text
 

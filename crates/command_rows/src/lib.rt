@@ -36,9 +36,8 @@ pub fn put_partitions(starts: &[u64], ends: &[u64], from: usize, out: &mut [u8])
     // the last place with room for the longest line
     let last = out.len() - LONGEST_PARTITION;
     let mut first = lengths_before(starts, ends, from);
-    let mut i = from;
     let mut put = 0;
-    while i < starts.len() {
+    for i in from..starts.len() {
         if last < put {
             return Rows { next: i, put };
         }
@@ -46,9 +45,11 @@ pub fn put_partitions(starts: &[u64], ends: &[u64], from: usize, out: &mut [u8])
         let end = ends[i];
         put = put_partition(out, put, i as u64 + 1, start, end, first);
         first += end - start;
-        i += 1;
     }
-    Rows { next: i, put }
+    Rows {
+        next: starts.len(),
+        put,
+    }
 }
 
 // A partition by its number, from 1, with the encoded count of its start.

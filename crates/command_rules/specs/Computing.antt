@@ -1,5 +1,4 @@
 -- `unfolding command` lets tables of cases compute.
-use mathlib.Core.List.{flatten}
 use Rattle.rules.specs.Computing.{computing}
 use Rattle.rules.specs.Examples.{bytes, layout_a, partitions_a, segments_a}
 use Rattle.rules.specs.StampTime.{with_time, time_of_stamp, time_of_message}

@@ -1,10 +1,8 @@
 -- The fields of an output line: numbers, times and refusals as text.
-use Rattle.std.specs.Prelude.{ℕ, ◌+◌, ◌/◌, ◌^◌, Bool, true, false, cond, List, [], ◌∷◌, ◌++◌, ℤ, pos, negsuc}
+use Rattle.rules.specs.Answer.{Numbered}
+use Rattle.std.specs.Prelude.{ℕ, ◌+◌, ◌/◌, ◌^◌, Bool, true, false, cond, List, [], ◌∷◌, ◌++◌, ℤ, pos, negsuc, Option, Some, None}
 use Rattle.std.specs.Int.Signed.{le_z}
 use Rattle.base.specs.Signed.{elapsed}
-use Rattle.rules.specs.declared.Place.{Place}
-use Rattle.rules.specs.declared.Place.TheVariants as Places
-use Rattle.rules.specs.declared.Refusal.{Refusal}
 use Rattle.rules.specs.Print.{last_digits}
 use Rattle.lines.specs.Lines.{line_end}
 use Rattle.number_text.specs.Numbers.{decimal_of}
@@ -46,10 +44,10 @@ rate_text false r = decimal_of r
 rate_text true r = pointed 12 r
 
 -- `-` where there is no place
-unfoldable pub place_text : Place → List ℕ
-place_text Places.None = 45 ∷ []
-place_text (Places.At i) = decimal_of i
+unfoldable pub place_text : Option ℕ → List ℕ
+place_text None = 45 ∷ []
+place_text (Some i) = decimal_of i
 
 -- "a refusal with its number, place and a sentence"
-unfoldable pub refusal_text : Refusal → List ℕ
+unfoldable pub refusal_text : Numbered → List ℕ
 refusal_text k = field (decimal_of k.number) (field (place_text k.place) (sentence k.number))

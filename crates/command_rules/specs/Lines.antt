@@ -1,10 +1,9 @@
 -- What the command prints of a line of input, and whether the line is answered well: "Exit status 0 all answered and same, 1 some refusal or difference".
-use Rattle.std.specs.Prelude.{ℕ, ◌+◌, Bool, true, false, cond, ◌&&◌, List, [], ◌∷◌, ◌++◌, eqb}
+use Rattle.std.specs.Prelude.{ℕ, ◌+◌, Bool, true, false, ◌&&◌, List, eqb}
 use Rattle.rules.specs.declared.Layout.{Layout}
-use Rattle.rules.specs.declared.Refusal.{Refusal}
 use Rattle.rules.specs.declared.CountAtTime.{CountAtTime}
 use Rattle.rules.specs.declared.TimedStamp.{TimedStamp}
-use Rattle.rules.specs.Answer.{Answer, answer, refused, and_then}
+use Rattle.rules.specs.Answer.{Answer, answer, refused, and_then, Numbered}
 use Rattle.rules.specs.Limits.{longest_text}
 use Rattle.rules.specs.Partitions.{Partitions}
 use Rattle.rules.specs.Print.{print_stamp}
@@ -72,7 +71,7 @@ both_line seconds a b false =
     }
 
 -- "or both refuse with one number", "refused N and M"
-unfoldable pub refused_line : Refusal → Refusal → Bool → Line
+unfoldable pub refused_line : Numbered → Numbered → Bool → Line
 refused_line j k true = record { text = field (bytes "same") (field (bytes "refused") (last_field (refusal_text j))); well = false }
 refused_line j k false = record { text = field (bytes "refused") (field (refusal_text j) (last_field (refusal_text k))); well = false }
 

@@ -2,7 +2,7 @@
 #![tactic(auto)]
 
 // What is asked of each line of input.
-#[derive(Clone, Copy)]
+#[derive(Clone, Copy, Debug, PartialEq, Eq)]
 pub enum Query {
     // A stamp: its encoded count and time.
     Time,

@@ -42,16 +42,17 @@ pub fn put_segments(
 {
     // the last place with room for the longest line
     let last = out.len() - LONGEST_SEGMENT;
-    let mut i = from;
     let mut put = 0;
-    while i < counts.len() {
+    for i in from..counts.len() {
         if last < put {
             return Rows { next: i, put };
         }
         put = put_segment(unit, counts, times, rates, seconds, i, out, put);
-        i += 1;
     }
-    Rows { next: i, put }
+    Rows {
+        next: counts.len(),
+        put,
+    }
 }
 
 // The line of row `i`.

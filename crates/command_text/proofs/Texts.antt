@@ -1,5 +1,5 @@
 -- The bytes of times and rates, as the code puts them.
-use Prim.Native.Nat.{ℕ, ◌+◌, ◌-◌, ◌/◌, ◌^◌, ◌≤◌, ◌<◌}
+use Prim.Native.Nat.{ℕ, ◌+◌, ◌/◌, ◌^◌, ◌≤◌, ◌<◌}
 use mathlib.Core.Path.{◌≡◌, sym, ◌∙◌}
 use mathlib.Core.Bool.{Bool, true, false}
 use mathlib.Core.List.{List, [], ◌∷◌, ◌++◌, append_assoc}
@@ -8,9 +8,15 @@ use lib.ListN.{length}
 use mir.Syntax.{w64}
 use mir.Val.{SFits, to_z, of_z}
 use mir.Facts.{to_z-of_z}
+use native.Mathlib.Nat.{pow-le-pow_right}
 use native.Mathlib.Omega.{arith}
 use lib.Signed.{le_z}
-use Rattle.base.specs.Signed.{elapsed, ordinal}
+use lib.Signed.{lt_z}
+use lib.IntN.{nat_abs}
+use mathlib.Core.Path.{refl}
+use native.Mathlib.Numerals.{add-one}
+use Rattle.std.proofs.lemmas.Int.{ints}
+use Rattle.base.specs.Signed.{elapsed}
 use Rattle.base.proofs.Signed.{before_not_after, before_at_most}
 use Rattle.rules.specs.declared.TimedStamp.{TimedStamp}
 use Rattle.rules.specs.Print.{last_digits}
@@ -19,11 +25,14 @@ use Rattle.roundtrip.proofs.Digits.{last_length}
 use Rattle.decimal.proofs.Digits.{digits_room}
 use Rattle.decimal.proofs.LeftToRight.{written_same_length, written_then}
 use Rattle.number_text.specs.Numbers.{decimal_of, longest_number}
-use Rattle.command_rules.specs.Fields.{pointed, amount_text, time_text, difference_text, rate_text}
+use Rattle.command_rules.specs.Fields.{pointed, amount_text, time_text, difference_text}
 use Rattle.command_rules.specs.Lines.{both_fields}
 use Rattle.command_text.specs.Longest.{longest_pointed, longest_field, longest_both}
 
 -- a number with a point
+pub ten_pos : (k : ℕ) → 0 < 10 ^ k
+ten_pos k = pow-le-pow_right {n = 10} (omega arith) {i = 0} {j = k} (omega arith)
+
 module _ (x whole places at start : ℕ) {entry first : List ℕ} (unit : whole ≡ 10 ^ places) (small : places ≤ 12) (room : at + longest_pointed ≤ length entry)
     (w : Written (decimal_of (x / whole) ++ (46 ∷ [])) start at entry first) (b : start ≤ at + longest_number + 1) where
   pub places_room : Room (last_digits places x) (start + places) first
@@ -37,35 +46,25 @@ module _ (x whole places at start : ℕ) {entry first : List ℕ} (unit : whole 
       let two = written_then (rw unit at w) (rw here at d) (omega arith) in
       written_then (rw (append_assoc (decimal_of (x / 10 ^ places)) (46 ∷ []) (last_digits places x)) at two) t (omega arith)
 
--- an amount, by `--seconds`
-module _ (seconds : Bool) (x r at after : ℕ) {entry exit : List ℕ} where
-  pub in-seconds : seconds ≡ true → Written (pointed 9 x ++ (after ∷ [])) r at entry exit → Written (amount_text seconds x ++ (after ∷ [])) r at entry exit
-  unfolding amount_text
-  in-seconds h w = rw h w
+-- a time by its sign
+minus_time : (seconds : Bool) (t : ℤ) → lt_z t (pos 0) ≡ true → time_text seconds t ≡ 45 ∷ amount_text seconds (nat_abs t)
+unfolding time_text
+minus_time seconds (pos n) h = absurd (grind (arith, ints))
+minus_time seconds (negsuc n) h = rw add-one refl
 
-  pub in-nanoseconds : seconds ≡ false → Written (decimal_of x ++ (after ∷ [])) r at entry exit → Written (amount_text seconds x ++ (after ∷ [])) r at entry exit
-  unfolding amount_text
-  in-nanoseconds h w = rw h w
+plus_time : (seconds : Bool) (t : ℤ) → lt_z t (pos 0) ≡ false → time_text seconds t ≡ amount_text seconds (nat_abs t)
+unfolding time_text
+plus_time seconds (pos n) h = refl
+plus_time seconds (negsuc n) h = absurd (grind (arith, ints))
 
--- a time by its ordinal
-minus_time : (seconds : Bool) (t : ℤ) (o : ℕ) → SFits w64 t → o ≡ ordinal (2 ^ 63) t → o < 2 ^ 63 → time_text seconds t ≡ 45 ∷ amount_text seconds (2 ^ 63 - o)
-unfolding time_text ordinal
-minus_time seconds (pos n) o f e h = absurd (omega arith)
-minus_time seconds (negsuc n) o f e h = let same : 2 ^ 63 - o ≡ n + 1 = omega (arith, f.sfits) in rw same
-
-plus_time : (seconds : Bool) (t : ℤ) (o : ℕ) → SFits w64 t → o ≡ ordinal (2 ^ 63) t → 2 ^ 63 ≤ o → time_text seconds t ≡ amount_text seconds (o - 2 ^ 63)
-unfolding time_text ordinal
-plus_time seconds (pos n) o f e h = let same : o - 2 ^ 63 ≡ n = omega arith in rw same
-plus_time seconds (negsuc n) o f e h = absurd (omega (arith, f.sfits))
-
-module _ (seconds : Bool) (t : ℤ) (f : SFits w64 t) (o at r after : ℕ) {entry exit : List ℕ} (e : o ≡ ordinal (2 ^ 63) (to_z w64 (of_z w64 t))) where
-  pub minus_put : (place : ℕ) {out : List ℕ} → o < 2 ^ 63 → at + longest_field ≤ length entry → place ≡ at + 1
-      → Written (45 ∷ []) place at entry out → Written (amount_text seconds (2 ^ 63 - o) ++ (after ∷ [])) r place out exit
+module _ (seconds : Bool) (t : ℤ) (f : SFits w64 t) (m at r after : ℕ) {entry exit : List ℕ} (e : m ≡ nat_abs (to_z w64 (of_z w64 t))) where
+  pub minus_put : (place : ℕ) {out : List ℕ} → lt_z (to_z w64 (of_z w64 t)) (pos 0) ≡ true → at < length entry
+      → Written (45 ∷ []) place at entry out → Written (amount_text seconds m ++ (after ∷ [])) r place out exit
       → Written (time_text seconds t ++ (after ∷ [])) r at entry exit
-  minus_put place h l q w v = rw (minus_time seconds t o f (e ∙ rw (to_z-of_z f)) h) (written_then w v (omega arith))
+  minus_put place h l w v = rw (minus_time seconds t (rw (to_z-of_z f) at h), ← to_z-of_z f, ← e) (written_then w v (omega (arith, w.ends)))
 
-  pub plus_put : 2 ^ 63 ≤ o → Written (amount_text seconds (o - 2 ^ 63) ++ (after ∷ [])) r at entry exit → Written (time_text seconds t ++ (after ∷ [])) r at entry exit
-  plus_put h w = rw (plus_time seconds t o f (e ∙ rw (to_z-of_z f)) h) w
+  pub plus_put : lt_z (to_z w64 (of_z w64 t)) (pos 0) ≡ false → Written (amount_text seconds m ++ (after ∷ [])) r at entry exit → Written (time_text seconds t ++ (after ∷ [])) r at entry exit
+  plus_put h w = rw (plus_time seconds t (rw (to_z-of_z f) at h), ← to_z-of_z f, ← e) w
 
 pub other_way : (a b : ℤ) → le_z a b ≡ false → le_z b a ≡ true
 other_way a b h = before_at_most b a (before_not_after b a ∙ rw h)
@@ -81,15 +80,6 @@ module _ (seconds : Bool) (a b : ℤ) (f : SFits w64 a) (g : SFits w64 b) (d at 
       → Written (45 ∷ []) place at entry out → Written (amount_text seconds d ++ (after ∷ [])) r place out exit → Written (difference_text seconds a b ++ (after ∷ [])) r at entry exit
   unfolding difference_text
   earlier_put place h e l q w v = let same : d ≡ elapsed b a = e ∙ rw (to_z-of_z f, to_z-of_z g) in rw (rw (to_z-of_z f, to_z-of_z g) at h, ← same) (written_then w v (omega arith))
-
-module _ (seconds : Bool) (rate r at after : ℕ) {entry exit : List ℕ} where
-  pub rate_in_seconds : seconds ≡ true → Written (pointed 12 rate ++ (after ∷ [])) r at entry exit → Written (rate_text seconds rate ++ (after ∷ [])) r at entry exit
-  unfolding rate_text
-  rate_in_seconds h w = rw h w
-
-  pub rate_in_picoseconds : seconds ≡ false → Written (decimal_of rate ++ (after ∷ [])) r at entry exit → Written (rate_text seconds rate ++ (after ∷ [])) r at entry exit
-  unfolding rate_text
-  rate_in_picoseconds h w = rw h w
 
 -- a count and its time
 pub both_put : (seconds : Bool) (s : TimedStamp) (f : SFits w64 s.time) (after at place r : ℕ) {entry out exit : List ℕ} → at + longest_both ≤ length entry

@@ -17,14 +17,6 @@ const POINT: u8 = b'.';
 
 const MINUS: u8 = b'-';
 
-// The ordinal of the time 0.
-const ZERO: u64 = 0x8000_0000_0000_0000;
-
-// Nanoseconds to a second, and picoseconds.
-const NANO: u64 = 1_000_000_000;
-
-const PICO: u64 = 1_000_000_000_000;
-
 // An encoded count, a tab and its time.
 pub fn put_both(out: &mut [u8], at: usize, stamp: TimedStamp, seconds: bool, after: u8) -> usize
     requires { at + longest_both ≤ length out.old }
@@ -41,12 +33,12 @@ pub fn put_time_by(out: &mut [u8], at: usize, time: i64, seconds: bool, after: u
     ensures written { Written (time_text seconds time ++ (after ∷ [])) result at out.old out.new }
     ensures upper_bound { result ≤ at + longest_field }
 {
-    let ordinal = signed::ordinal(time);
-    if ordinal < ZERO {
+    let magnitude = time.unsigned_abs();
+    if time < 0 {
         let place = put_byte(out, at, MINUS);
-        return put_amount(out, place, ZERO - ordinal, seconds, after);
+        return put_amount(out, place, magnitude, seconds, after);
     }
-    put_amount(out, at, ordinal - ZERO, seconds, after)
+    put_amount(out, at, magnitude, seconds, after)
 }
 
 // By how much `to` is later than `from`, with `-` in front where it is earlier.
@@ -70,38 +62,44 @@ pub fn put_difference(
 }
 
 // An amount of nanoseconds, or in decimal seconds.
+#[tactic(auto, unfolding(command_rules::specs::Fields::amount_text))]
 pub fn put_amount(out: &mut [u8], at: usize, amount: u64, seconds: bool, after: u8) -> usize
     requires { at + longest_pointed ≤ length out.old }
     ensures written { Written (amount_text seconds amount ++ (after ∷ [])) result at out.old out.new }
     ensures upper_bound { result ≤ at + longest_pointed }
 {
     if seconds {
-        return put_pointed(out, at, amount, NANO, 9, after);
+        put_pointed(out, at, amount, 9, after)
+    } else {
+        put_number(out, at, amount, after)
     }
-    put_number(out, at, amount, after)
 }
 
 // A rate in picoseconds, or in decimal seconds.
+#[tactic(auto, unfolding(command_rules::specs::Fields::rate_text))]
 pub fn put_rate(out: &mut [u8], at: usize, rate: u64, seconds: bool, after: u8) -> usize
     requires { at + longest_field ≤ length out.old }
     ensures written { Written (rate_text seconds rate ++ (after ∷ [])) result at out.old out.new }
     ensures upper_bound { result ≤ at + longest_field }
 {
     if seconds {
-        return put_pointed(out, at, rate, PICO, 12, after);
+        put_pointed(out, at, rate, 12, after)
+    } else {
+        put_number(out, at, rate, after)
     }
-    put_number(out, at, rate, after)
 }
 
-// A number of units, `whole` of them to one: the whole, a point and as many places.
-fn put_pointed(out: &mut [u8], at: usize, x: u64, whole: u64, places: usize, after: u8) -> usize
-    requires whole_value { (whole ≡ 10 ^ places) × (1 ≤ whole) × (places ≤ 12) }
+// A number of units, `10^places` of them to a whole: the whole, a point and as many places.
+#[tactic(auto, using(crate::proofs::Texts::ten_pos))]
+fn put_pointed(out: &mut [u8], at: usize, x: u64, places: u32, after: u8) -> usize
+    requires places_bound { places ≤ 12 }
     requires longest_pointed_in_bounds { at + longest_pointed ≤ length out.old }
     ensures written { Written (pointed places x ++ (after ∷ [])) result at out.old out.new }
     ensures upper_bound { result ≤ at + longest_pointed }
 {
+    let whole = 10u64.pow(places);
     let start = put_number(out, at, x / whole, POINT);
-    let end = start + places;
-    write_digits(x, places, end, out);
+    let end = start + places as usize;
+    write_digits(x, places as usize, end, out);
     put_byte(out, end, after)
 }

@@ -2,12 +2,9 @@
 use Rattle.std.specs.Prelude.{ℕ, Bool, cond, List, ltb, length, take}
 use Rattle.rules.specs.Examples.{bytes}
 use Rattle.kernel_rules.specs.Lines.{same}
-use Rattle.command_words.specs.declared.Command.{Command}
 use Rattle.command_words.specs.declared.Command.TheVariants.{Time, Stamp, Count, Describe, Compare}
 use Rattle.command_words.specs.declared.First.{First}
-use Rattle.command_words.specs.declared.First.TheVariants as First
 use Rattle.command_words.specs.declared.Later.{Later}
-use Rattle.command_words.specs.declared.Later.TheVariants as Later
 
 -- "The command word comes first"; "`--help` (as the first word ..)"
 unfoldable pub first_of : List ℕ → First

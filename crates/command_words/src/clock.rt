@@ -1,90 +1,57 @@
 // A word as a clock's number: digits, `-` in front of a negative one, in 64 bits.
-ghost use Rattle.std.specs.Prelude.{◌≡◌, ◌-◌, ◌≤◌, drop};
-ghost use Rattle.rules.specs.Text.{is_digit};
+ghost use Rattle.std.specs.Prelude.{◌≡◌, ◌-◌, ◌≤◌, IfSome};
 ghost use Rattle.command_words.specs.Clock.{least, spelled, clock_of, below_zero, from_zero};
-
-#[derive(Clone, Copy)]
-pub enum ClockWord {
-    Number(i64),
-    Bad,
-}
-
-// Digits as a number up to a limit.
-#[derive(Clone, Copy)]
-pub enum Spelled {
-    Number(u64),
-    Bad,
-}
 
 // The least i64 without its sign.
 const LEAST: u64 = 0x8000_0000_0000_0000;
 
-pub fn clock_of(w: &[u8]) -> ClockWord
+// None where the word is no such number.
+#[tactic(auto, using(crate::proofs::Numbers::minus_clock, crate::proofs::Numbers::plus_clock))]
+pub fn clock_of(w: &[u8]) -> Option<i64>
     ensures { result ≡ clock_of w.now }
 {
-    if w.len() == 0 {
-        return ClockWord::Bad;
+    match w.strip_prefix(b"-") {
+        Some(digits) => below_zero(digits),
+        None => from_zero(w),
     }
-    if w[0] == b'-' {
-        return below_zero(&w[1..]);
-    }
-    from_zero(w)
 }
 
-fn below_zero(w: &[u8]) -> ClockWord
+#[tactic(auto, using(crate::proofs::Numbers::below_number))]
+fn below_zero(w: &[u8]) -> Option<i64>
     ensures { result ≡ below_zero (spelled least w.now) }
 {
-    match spell(w, LEAST) {
-        Spelled::Number(n) => ClockWord::Number(signed::from_ordinal(LEAST - n)),
-        Spelled::Bad => ClockWord::Bad,
-    }
+    let number = spelled(w, LEAST)?;
+    Some(signed::from_ordinal(LEAST - number))
 }
 
-fn from_zero(w: &[u8]) -> ClockWord
+#[tactic(auto, using(crate::proofs::Numbers::from_number))]
+fn from_zero(w: &[u8]) -> Option<i64>
     ensures { result ≡ from_zero (spelled (least - 1) w.now) }
 {
-    match spell(w, LEAST - 1) {
-        Spelled::Number(n) => ClockWord::Number(signed::from_ordinal(LEAST + n)),
-        Spelled::Bad => ClockWord::Bad,
-    }
+    let number = spelled(w, LEAST - 1)?;
+    Some(number as i64)
 }
 
 // The number that at least one digit spells, where it is at most the limit.
-fn spell(w: &[u8], limit: u64) -> Spelled
+#[tactic(auto, using(crate::proofs::Spelling::no_digit, crate::proofs::Spelling::some_digits, crate::proofs::Spelling::no_such_digit, crate::proofs::Spelling::too_large, crate::proofs::Spelling::one_more, crate::proofs::Spelling::all_digits))]
+fn spelled(w: &[u8], limit: u64) -> Option<u64>
     requires { (9 ≤ limit) × (limit ≤ least) }
-    ensures { result ≡ spelled limit w.now }
+    ensures value { result ≡ spelled limit w.now }
+    ensures upper_bound { IfSome result (λ n. n ≤ limit) }
 {
-    if w.len() == 0 {
-        return Spelled::Bad;
+    if w.is_empty() {
+        return None;
     }
-    let mut value: u64 = 0;
-    let mut i = 0;
-    while i < w.len() {
-        let byte = w[i];
-        if !is_digit(byte) {
-            return Spelled::Bad;
+    let mut value = 0;
+    for byte in w {
+        if !byte.is_ascii_digit() {
+            return None;
         }
-        let digit = widened(byte - b'0');
+        let digit = u64::from(byte - b'0');
         if (limit - digit) / 10 < value {
-            return Spelled::Bad;
+            return None;
         }
         value = value * 10 + digit;
-        i += 1;
     }
-    Spelled::Number(value)
-}
-
-fn is_digit(byte: u8) -> bool
-    ensures { result ≡ is_digit byte }
-{
-    if byte < b'0' {
-        return false;
-    }
-    byte <= b'9'
-}
-
-fn widened(x: u8) -> u64
-    ensures { result ≡ x }
-{
-    x as u64
+    Some(value)
 }

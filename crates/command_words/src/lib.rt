@@ -2,7 +2,7 @@
 #![tactic(auto)]
 
 ghost use Rattle.std.specs.Prelude.{◌≡◌};
-ghost use Rattle.command_words.specs.Words.{first_of, is_option, option_of, later_of};
+ghost use Rattle.command_words.specs.Words.{first_of, option_of, later_of};
 
 use kernel_lines::line_bytes::same;
 
@@ -38,6 +38,7 @@ pub enum Later {
 // Bytes of a word.
 const LONGEST_WORD: usize = 4_095;
 
+#[tactic(auto, unfolding(crate::specs::Words::first_of, rules::specs::Examples::bytes))]
 pub fn first_of(w: &[u8]) -> First
     ensures { result ≡ first_of w.now }
 {
@@ -62,30 +63,20 @@ pub fn first_of(w: &[u8]) -> First
     First::Other
 }
 
+#[tactic(auto, using(crate::proofs::Options::two_dashes), unfolding(crate::specs::Words::later_of))]
 pub fn later_of(w: &[u8]) -> Later
     ensures { result ≡ later_of w.now }
 {
     if LONGEST_WORD < w.len() {
         return Later::Unknown;
     }
-    if is_option(w) {
+    if w.starts_with(b"--") {
         return option_of(w);
     }
     Later::Plain
 }
 
-fn is_option(w: &[u8]) -> bool
-    ensures { result ≡ is_option w.now }
-{
-    if w.len() < 2 {
-        return false;
-    }
-    if w[0] != b'-' {
-        return false;
-    }
-    w[1] == b'-'
-}
-
+#[tactic(auto, unfolding(crate::specs::Words::option_of, rules::specs::Examples::bytes))]
 fn option_of(w: &[u8]) -> Later
     ensures { result ≡ option_of w.now }
 {

@@ -16,7 +16,7 @@ use native.Mathlib.Omega.{arith}
 use Rattle.base.proofs.Tests.{by_test, and_second}
 use Rattle.rules.specs.Limits.{earliest_time, latest_time}
 use Rattle.rules.specs.declared.Segment.{Segment}
-use Rattle.rules.specs.Answer.{Answer, answer, refuse, unless, time_of_count, count_at_time}
+use Rattle.rules.specs.Answer.{Answer, answer, refuse, unless, time_of_count}
 use Rattle.rules.specs.Segments.{Segments, segments, row_of, line_at}
 use Rattle.rules.specs.Facts.{SegmentsFacts}
 use Rattle.rules.specs.Time.{segment_of, segment_at, time_on, time_in, ticks_since, line_count, stopped_at, not_beyond, count_on, count_in}
@@ -25,21 +25,12 @@ use Rattle.rules.specs.declared.CountAtTime.{CountAtTime}
 use Rattle.tables.specs.Accept.{BasisFacts}
 use Rattle.segments.specs.Rows.{RowIn}
 use Rattle.segment_line.specs.Line.{ToTime, ToTicks}
-use Rattle.segment_search.specs.declared.Found.{Found}
-use Rattle.segment_search.specs.declared.Found.TheVariants as Of
+use Rattle.std.specs.Prelude.{Some, None}
+use Rattle.std.specs.Prelude.{Option as Row}
 use Rattle.segment_search.specs.Found.{found}
 use Rattle.segment_search.specs.Growing.{CountsGrow, TimesGrow}
 use Rattle.conversion.specs.LastCount.{HasCount, last_count}
 use Rattle.conversion.proofs.Rows.{count_below, next_positive, in-lists, count_row, line_to_time, time_row, line_to_ticks, ticks_small}
-
-module _ (total c : ℕ) where
-  pub beyond : total < c → refuse 14 ≡ not_beyond total c
-  unfolding not_beyond unless
-  beyond h = rw (lt-leb c total h)
-
-  pub not_beyond_lem : c ≤ total → answer (count_at_time c) ≡ not_beyond total c
-  unfolding not_beyond unless
-  not_beyond_lem h = rw (le-leb c total h)
 
 -- the code has n counts and the next one, wherever they lie
 module _ (counts : List ℕ) (i : ℕ) (w : HasCount counts i) (n : ℕ) (en : n ≡ length counts) where
@@ -84,12 +75,12 @@ module _ (unit total : ℕ) (counts : List ℕ) (times : List ℤ) (rates : List
   unfolding time_in unless
   beyond_total e h = rw (lt-leb e total h)
 
-  module _ (e : ℕ) (r : Found) (s : found r ≡ segment_of counts e) where
-    pub before_first : e ≤ total → r ≡ Of.Nothing → refuse 13 ≡ time_in unit total g e
+  module _ (e : ℕ) (r : Row ℕ) (s : found r ≡ segment_of counts e) where
+    pub before_first : e ≤ total → r ≡ None → refuse 13 ≡ time_in unit total g e
     unfolding time_in unless time_on
     before_first h q = rw (le-leb e total h, sym s, q)
 
-    module _ (i : ℕ) (q : r ≡ Of.Row i) where
+    module _ (i : ℕ) (q : r ≡ Some i) where
       at_row : segment_of counts e ≡ some i
       at_row = rw q at (sym s)
 
@@ -108,15 +99,15 @@ module _ (unit total : ℕ) (counts : List ℕ) (times : List ℤ) (rates : List
   unfolding count_in unless
   out_of_range t b f e h = rw (rw (to_z-of_z f) at (sym e) ∙ not-true b h)
 
-  module _ (t : ℤ) (b : Bool) (ft : SFits w64 t) (e : b ≡ (le_z earliest_time (to_z w64 (of_z w64 t)) && le_z (to_z w64 (of_z w64 t)) latest_time)) (h : not b ≡ false) (r : Found) (s : found r ≡ segment_at times (to_z w64 (of_z w64 t))) where
+  module _ (t : ℤ) (b : Bool) (ft : SFits w64 t) (e : b ≡ (le_z earliest_time (to_z w64 (of_z w64 t)) && le_z (to_z w64 (of_z w64 t)) latest_time)) (h : not b ≡ false) (r : Row ℕ) (s : found r ≡ segment_at times (to_z w64 (of_z w64 t))) where
     both : (le_z earliest_time t && le_z t latest_time) ≡ true
     both = rw (to_z-of_z ft) at (sym e) ∙ not-false b h
 
-    pub before_all : r ≡ Of.Nothing → refuse 13 ≡ count_in unit total g t
+    pub before_all : r ≡ None → refuse 13 ≡ count_in unit total g t
     unfolding count_in unless count_on
     before_all q = rw (both, ← (to_z-of_z ft), ← s, q)
 
-    module _ (i : ℕ) (q : r ≡ Of.Row i) where
+    module _ (i : ℕ) (q : r ≡ Some i) where
       at_time_row : segment_at times t ≡ some i
       at_time_row = rw (to_z-of_z ft, q) at (sym s)
 

@@ -1,7 +1,7 @@
 -- How many digits a number has, by powers of ten; and its last digits, written from the right.
 use Prim.Native.Nat.{ℕ, zero, suc, ◌+◌, ◌-◌, ◌/◌, ◌%◌, ◌^◌, ◌≤◌, ◌<◌}
 use mathlib.Core.Path.{◌≡◌, refl, ◌∙◌}
-use mathlib.Core.List.{List, [], ◌∷◌}
+use mathlib.Core.List.{List, []}
 use lib.Dec.{lit<}
 use lib.ListN.{length, set}
 use lib.Pow.{pow-add}
@@ -45,10 +45,6 @@ module _ (s : List ℕ) (x start end at : ℕ) (entry buffer : List ℕ) (l : Le
       let w : at - start ≡ suc (at - 1 - start) = omega arith in
       left_byte s (last_digits (at - 1 - start) (x / 10)) d end at entry buffer (rw (w, ← e) at l)
 
-  pub digits_done : at ≤ start → Written s end at entry buffer
-  unfolding last_digits
-  digits_done h = let w : at - start ≡ 0 = omega arith in left_nothing s end at entry buffer (rw w at l)
-
 pub digits_room : (w x end : ℕ) (b : List ℕ) → w ≤ end → end ≤ length b → Room (last_digits w x) end b
 digits_room w x end b h k = record { before = omega (arith, last_length w x); within = k }
 
@@ -58,3 +54,12 @@ module _ (w x end : ℕ) (b : List ℕ) (r : Room (last_digits w x) end b) where
 
   pub digits_all : Left (last_digits w x) (last_digits (end - (end - w)) x) end end b b
   digits_all = let e : end - (end - w) ≡ w = omega (arith, room_width) in rw e (left_all (last_digits w x) end b r)
+
+  -- all of them are written
+  pub digits_done : (rest at : ℕ) (buffer : List ℕ) → Left (last_digits w x) (last_digits (at - (end - w)) rest) end at b buffer → at ≤ end - w → Written (last_digits w x) end (end - w) b buffer
+  unfolding last_digits
+  digits_done rest at buffer l h =
+      let none : at - (end - w) ≡ 0 = omega arith in
+      let t : Left (last_digits w x) [] end at b buffer = rw none at l in
+      let start : at ≡ end - w = omega (arith, t.ends, last_length w x, room_width) in
+      rw start at (left_nothing (last_digits w x) end at b buffer t)

@@ -35,13 +35,11 @@ pub fn write_digits(x: u64, width: usize, end: usize, buffer: &mut [u8]) -> usiz
 {
     let start = end - width;
     let mut rest = x;
-    let mut at = end;
-    while start < at {
-        at -= 1;
-        buffer[at] = digit(rest % 10);
+    for at in (start..end).rev() {
+        buffer[at] = b'0' + (rest % 10) as u8;
         rest /= 10;
     }
-    at
+    start
 }
 
 // Writes one byte, just before index end, and answers where it stands.
@@ -52,11 +50,4 @@ pub fn write_byte(byte: u8, end: usize, buffer: &mut [u8]) -> usize
     let at = end - 1;
     buffer[at] = byte;
     at
-}
-
-fn digit(d: u64) -> u8
-    requires { d < 10 }
-    ensures { result ≡ 48 + d }
-{
-    48 + d as u8
 }

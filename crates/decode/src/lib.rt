@@ -18,9 +18,9 @@ pub fn decode(starts: &[u64], ends: &[u64], encoded: u64) -> Decoded
     ensures partition_value { result.partition ≡ partition_of (partitions starts.now ends.now) encoded }
     ensures count_value { result.count ≡ decoded_in (partitions starts.now ends.now) encoded (partition_of (partitions starts.now ends.now) encoded) }
 {
-    let mut i = 0;
+    let last = starts.len() - 1;
     let mut before = 0;
-    while i + 1 < starts.len() {
+    for i in 0..last {
         let next = before + (ends[i] - starts[i]);
         if encoded < next {
             return Decoded {
@@ -29,10 +29,9 @@ pub fn decode(starts: &[u64], ends: &[u64], encoded: u64) -> Decoded
             };
         }
         before = next;
-        i += 1;
     }
     Decoded {
-        partition: i,
-        count: starts[i] + (encoded - before),
+        partition: last,
+        count: starts[last] + (encoded - before),
     }
 }

@@ -1,59 +1,50 @@
 // The double form: one segment as three doubles, for tools that work in doubles.
-// Each operation of a conversion is an f64 operation, in the order that document 01 writes it.
+// Each operation of a conversion is an f64 operation, in the order that docs/RULES.md writes it.
 #![tactic(auto)]
 
 ghost use Rattle.std.specs.Prelude.{◌≡◌, ◌≤◌};
 ghost use Rattle.rules.specs.Limits.{largest_msf};
-ghost use Rattle.rules.specs.Answer.{double_answer};
 ghost use Rattle.rules.specs.Doubles.{tick_of, time_after, count_after, msf_ok, finite as is_finite, segment_finite, rate_ok, finite_answer, forward_double, back_double};
+ghost use Rattle.rules.specs.Answer.{answer_of};
 
-use rules::{DoubleAnswer, DoubleSegment, Layout};
+use rules::{DoubleSegment, Layout, Refusal};
 
 // The time at a count of the segment, in seconds.
-pub fn forward(segment: DoubleSegment, msf: u64, count: u64) -> DoubleAnswer
-    ensures { double_answer result ≡ forward_double segment msf count }
+#[tactic(auto, using(crate::proofs::Tests::msf_small), unfolding(rules::specs::Doubles::forward_double, rules::specs::Answer::unless))]
+pub fn forward(segment: DoubleSegment, msf: u64, count: u64) -> Result<f64, Refusal>
+    ensures { answer_of result ≡ forward_double segment msf count }
 {
-    if !msf_ok(msf) {
-        return DoubleAnswer::Refused(refusals::DOUBLE_FORM);
-    }
-    if Layout::LARGEST_P < count {
-        return DoubleAnswer::Refused(refusals::DOUBLE_FORM);
-    }
-    if !segment_finite(segment) {
-        return DoubleAnswer::Refused(refusals::DOUBLE_FORM);
-    }
-    if !rate_ok(segment, msf) {
-        return DoubleAnswer::Refused(refusals::DOUBLE_FORM);
+    if !msf_ok(msf)
+        || Layout::LARGEST_P < count
+        || !segment_finite(segment)
+        || !rate_ok(segment, msf)
+    {
+        return Err(Refusal::DoubleForm);
     }
     let given = count as f64;
     if given < segment.count {
-        return DoubleAnswer::Refused(refusals::DOUBLE_FORM);
+        return Err(Refusal::DoubleForm);
     }
     finite_answer(time_after(segment, msf, given))
 }
 
 // The count at a time of the segment, whole or not.
-pub fn back(segment: DoubleSegment, msf: u64, time: f64) -> DoubleAnswer
-    ensures { double_answer result ≡ back_double segment msf time }
+#[tactic(auto, using(crate::proofs::Tests::msf_small), unfolding(rules::specs::Doubles::back_double, rules::specs::Answer::unless))]
+pub fn back(segment: DoubleSegment, msf: u64, time: f64) -> Result<f64, Refusal>
+    ensures { answer_of result ≡ back_double segment msf time }
 {
-    if !msf_ok(msf) {
-        return DoubleAnswer::Refused(refusals::DOUBLE_FORM);
-    }
-    if !segment_finite(segment) {
-        return DoubleAnswer::Refused(refusals::DOUBLE_FORM);
-    }
-    if !finite(time) {
-        return DoubleAnswer::Refused(refusals::DOUBLE_FORM);
-    }
-    if !rate_ok(segment, msf) {
-        return DoubleAnswer::Refused(refusals::DOUBLE_FORM);
-    }
-    if time < segment.time {
-        return DoubleAnswer::Refused(refusals::DOUBLE_FORM);
+    if !msf_ok(msf)
+        || !segment_finite(segment)
+        || !finite(time)
+        || !rate_ok(segment, msf)
+        || time < segment.time
+    {
+        return Err(Refusal::DoubleForm);
     }
     finite_answer(count_after(segment, msf, time))
 }
 
+#[tactic(auto, unfolding(rules::specs::Doubles::msf_ok))]
 fn msf_ok(msf: u64) -> bool
     ensures { result ≡ msf_ok msf }
 {
@@ -67,16 +58,11 @@ fn finite(x: f64) -> bool
     x < 1.0 / 0.0 && -(1.0 / 0.0) < x
 }
 
+#[tactic(auto, unfolding(rules::specs::Doubles::segment_finite, base::specs::Scans::all_of))]
 fn segment_finite(segment: DoubleSegment) -> bool
     ensures { result ≡ segment_finite segment }
 {
-    if !finite(segment.count) {
-        return false;
-    }
-    if !finite(segment.time) {
-        return false;
-    }
-    finite(segment.rate)
+    finite(segment.count) && finite(segment.time) && finite(segment.rate)
 }
 
 // The rate is above 0, and over MSF it is not lost to rounding.
@@ -111,11 +97,13 @@ fn tick(segment: DoubleSegment, msf: u64) -> f64
     segment.rate / msf as f64
 }
 
-fn finite_answer(x: f64) -> DoubleAnswer
-    ensures { double_answer result ≡ finite_answer x }
+#[tactic(auto, unfolding(rules::specs::Doubles::finite_answer, rules::specs::Answer::unless))]
+fn finite_answer(x: f64) -> Result<f64, Refusal>
+    ensures { answer_of result ≡ finite_answer x }
 {
-    if !finite(x) {
-        return DoubleAnswer::Refused(refusals::DOUBLE_FORM);
+    if finite(x) {
+        Ok(x)
+    } else {
+        Err(Refusal::DoubleForm)
     }
-    DoubleAnswer::Double(x)
 }

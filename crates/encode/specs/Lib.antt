@@ -1,3 +1,2 @@
--- The facts of partitions that their encoded counts go by, and what encoding answers.
+-- The facts of partitions that their encoded counts go by.
 pub mod Listed
-pub mod Encoded

@@ -5,64 +5,50 @@ ghost use Rattle.std.specs.Prelude.{◌≡◌, ◌&&◌, ◌≤◌, leb, length}
 ghost use Rattle.rules.specs.Partitions.{partitions, lengths_before};
 ghost use Rattle.rules.specs.Stamp.{encode_named, encode_first};
 ghost use Rattle.encode.specs.Listed.{Listed};
-ghost use Rattle.encode.specs.Encoded.{encoded_answer};
+ghost use Rattle.rules.specs.Answer.{answer_of};
 
 use rules::Refusal;
 
-// An encoded count.
-#[derive(Clone, Copy)]
-pub enum Encoded {
-    Count(u64),
-    Refused(Refusal),
-}
-
 // In the first partition that holds the count.
-pub fn encode_first(starts: &[u64], ends: &[u64], count: u64) -> Encoded
+pub fn encode_first(starts: &[u64], ends: &[u64], count: u64) -> Result<u64, Refusal>
     requires { Listed (partitions starts.now ends.now) }
-    ensures { encoded_answer result ≡ encode_first (partitions starts.now ends.now) count }
+    ensures { answer_of result ≡ encode_first (partitions starts.now ends.now) count }
 {
     let mut before: u64 = 0;
-    let mut i = 0;
-    while i < starts.len() {
+    for i in 0..starts.len() {
         let start = starts[i];
         let end = ends[i];
         if is_within(start, end, count) {
-            return Encoded::Count(before + (count - start));
+            return Ok(before + (count - start));
         }
         before += end - start;
-        i += 1;
     }
-    Encoded::Refused(refusals::OUTSIDE_PARTITION)
+    Err(Refusal::OutsidePartition)
 }
 
 // In the partition of the number given; partitions are numbered from 1.
-pub fn encode_named(starts: &[u64], ends: &[u64], number: u64, count: u64) -> Encoded
+#[tactic(auto, unfolding(rules::specs::Stamp::encode_named, rules::specs::Answer::unless))]
+pub fn encode_named(starts: &[u64], ends: &[u64], number: u64, count: u64) -> Result<u64, Refusal>
     requires { Listed (partitions starts.now ends.now) }
-    ensures { encoded_answer result ≡ encode_named (partitions starts.now ends.now) number count }
+    ensures { answer_of result ≡ encode_named (partitions starts.now ends.now) number count }
 {
-    if number < 1 {
-        return Encoded::Refused(refusals::NO_SUCH_PARTITION);
-    }
-    if (starts.len() as u64) < number {
-        return Encoded::Refused(refusals::NO_SUCH_PARTITION);
+    if number < 1 || (starts.len() as u64) < number {
+        return Err(Refusal::NoSuchPartition);
     }
     let i = (number - 1) as usize;
     let start = starts[i];
     if is_within(start, ends[i], count) {
         let before = lengths_before(starts, ends, i);
-        return Encoded::Count(before + (count - start));
+        return Ok(before + (count - start));
     }
-    Encoded::Refused(refusals::OUTSIDE_PARTITION)
+    Err(Refusal::OutsidePartition)
 }
 
 // Both included.
 pub fn is_within(start: u64, end: u64, count: u64) -> bool
     ensures { result ≡ (leb start count && leb count end) }
 {
-    if count < start {
-        return false;
-    }
-    count <= end
+    start <= count && count <= end
 }
 
 // The lengths of the partitions before this row, added up: the encoded count of its start.
@@ -72,10 +58,8 @@ pub fn lengths_before(starts: &[u64], ends: &[u64], row: usize) -> u64
     ensures { result ≡ lengths_before (partitions starts.now ends.now) row }
 {
     let mut before: u64 = 0;
-    let mut i = 0;
-    while i < row {
+    for i in 0..row {
         before += ends[i] - starts[i];
-        i += 1;
     }
     before
 }

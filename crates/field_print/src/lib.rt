@@ -15,10 +15,8 @@ pub fn fields_length(moduli: &[u64], offsets: &[u64]) -> usize
     ensures upper_bound { result ≤ 210 }
 {
     let mut bytes = moduli.len() - 1;
-    let mut i = 0;
-    while i < moduli.len() {
+    for i in 0..moduli.len() {
         bytes += field_width(moduli, offsets, i);
-        i += 1;
     }
     bytes
 }
@@ -38,13 +36,11 @@ pub fn write_fields(
     ensures { Written (fields_print delimiter count moduli.now offsets.now) end result buffer.old buffer.new }
 {
     let mut rest = count;
-    let mut left = moduli.len();
     let mut at = end;
-    while 1 < left {
-        left -= 1;
-        let modulus = moduli[left];
-        let offset = offsets[left];
-        let width = field_width(moduli, offsets, left);
+    for i in (1..moduli.len()).rev() {
+        let modulus = moduli[i];
+        let offset = offsets[i];
+        let width = field_width(moduli, offsets, i);
         at = write_later_field(delimiter, rest % modulus + offset, width, at, buffer);
         rest /= modulus;
     }

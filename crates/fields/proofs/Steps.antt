@@ -1,56 +1,29 @@
 -- The steps of the pass as the code takes them: one law for each way out.
+use Rattle.rules.specs.declared.refusal.Refusal.{Refusal}
+use Rattle.std.specs.Prelude.{Result}
+use Rattle.rules.specs.declared.Reading.{Reading}
 use Prim.Native.Nat.{ℕ, ◌+◌, ◌-◌, ◌*◌, ◌≤◌, ◌<◌, min}
 use mathlib.Core.Path.{◌≡◌, refl, sym, ap, ◌∙◌}
 use mathlib.Core.Bool.{Bool, true, false, cond, not, ◌&&◌, ◌||◌}
 use mathlib.Core.List.{List}
-use lib.Dec.{leb, eqb}
+use lib.Dec.{leb}
 use lib.ListN.{length, get_or, drop, drop_of_length-le}
-use borrow.Author.Tests.{lt-ltb, le-ltb, le-leb, lt-leb, leb-true, eq-eqb, ne_eqb}
+use borrow.Author.Tests.{lt-ltb, le-ltb, leb-true, eq-eqb, ne_eqb}
 use native.Mathlib.Omega.{arith}
 use Rattle.base.proofs.Lists.{drop_next}
 use Rattle.base.proofs.Tests.{and_first, and_second, or_first, or_second, or_neither}
 use Rattle.base.specs.Scans.{product}
-use Rattle.rules.specs.Limits.{largest_count}
-use Rattle.rules.specs.declared.Refusal.{Refusal}
-use Rattle.rules.specs.declared.ReadAnswer.{ReadAnswer}
-use Rattle.rules.specs.Answer.{answer, refused, refuse, unless_at, fails_at, placed, reading, read_answer}
+use Rattle.rules.specs.Answer.{refused, refuse, placed, Numbered, answer_of}
 use Rattle.rules.specs.Text.{Before, edge, number, gap, is_digit, is_mark, is_blank, is_allowed}
 use Rattle.rules.specs.Stamp.{stands_in_front}
 use Rattle.fields.specs.declared.Fault.{Fault}
 use Rattle.fields.specs.declared.Fault.TheVariants as Faults
 use Rattle.fields.specs.declared.Pass.{Pass}
 use Rattle.fields.specs.declared.Scanned.{Scanned}
-use Rattle.fields.specs.Pass.{
-  sum_cap,
-  faultless,
-  is_surplus,
-  or_fault,
-  begun,
-  sum_with,
-  fault_in,
-  fault_with,
-  found_with,
-  surplus_in,
-  digit_in,
-  with_blank,
-  before,
-  fresh,
-  next,
-  with_digit,
-  step,
-  scan_from,
-  front_step,
-  front_scan_from,
-  count_of,
-  sum_in,
-  total,
-}
+use Rattle.fields.specs.Pass.{sum_cap, or_fault, begun, sum_with, fault_with, found_with, surplus_in, digit_in, with_blank, before, fresh, next, with_digit, step, scan_from, front_step, front_scan_from, count_of, sum_in, total}
 
 pub digit_at_least : (b : ℕ) (t : Bool) → t ≡ is_digit b → t ≡ true → 48 ≤ b
 digit_at_least b t e h = leb-true 48 b (and_first (leb 48 b) (leb b 57) (sym e ∙ h))
-
-pub last_mark : (b : ℕ) → (b ≡ 46 → ⊥) → (b ≡ 58 → ⊥) → (b ≡ 44 → ⊥) → eqb b 45 ≡ is_mark b
-last_mark b x y z = rw (ne_eqb b 46 x, ne_eqb b 58 y, ne_eqb b 44 z)
 
 module _ {A : Type 0} {b : Bool} (x y : A) where
   pub cond_yes : b ≡ true → cond b x y ≡ x
@@ -158,50 +131,13 @@ pub front_ended : (s : List ℕ) (p : Pass) (i : ℕ) (w : Scanned) → length s
 unfolding front_scan_from
 front_ended s p i w h e = sym (rw (drop_of_length-le s h) at e)
 
--- the ways out of the first fault, its place, and a surplus field's place
-module _ (p : Pass) where
-  module _ (t : Bool) (e : t ≡ faultless p.fault) where
-    pub fault_here : (o : ℕ) (f : Fault) → t ≡ true → f ≡ fault_in p o → f ≡ fault_with p o
-    unfolding fault_with
-    fault_here o f y g = rw (← e, y) g
-
-    pub fault_kept : (o : ℕ) → t ≡ false → p.fault ≡ fault_with p o
-    unfolding fault_with
-    fault_kept o n = rw (← e, n)
-
-    pub place_here : t ≡ true → p.first ≡ found_with p
-    unfolding found_with
-    place_here y = rw (← e, y)
-
-    pub place_kept : t ≡ false → p.found ≡ found_with p
-    unfolding found_with
-    place_kept n = rw (← e, n)
-
-  module _ (end : ℕ) (t : Bool) (e : t ≡ is_surplus p.fault) where
-    pub surplus_kept : t ≡ true → p.found ≡ surplus_in end p
-    unfolding surplus_in
-    surplus_kept y = rw (← e, y)
-
-    pub surplus_here : (i : ℕ) → t ≡ false → i ≡ cond p.present p.first end → i ≡ surplus_in end p
-    unfolding surplus_in
-    surplus_here i n f = rw (← e, n) f
-
 -- the ways out at the end
 pub sum_capped : (p : Pass) (m o a : ℕ) → a ≡ sum_with p m o → a ≤ sum_cap
 unfolding sum_with
 sum_capped p m o a e = omega arith
 
-module _ (end t w : ℕ) (e : t ≡ w) where
-  pub count_large : (k : Refusal) → largest_count < t → k ≡ placed 9 end → refused k ≡ count_of end w
-  unfolding count_of unless_at fails_at
-  count_large k l f = rw (← e, lt-leb t largest_count l, f)
-
-  pub count_good : t ≤ largest_count → answer (reading t) ≡ count_of end w
-  unfolding count_of unless_at fails_at
-  count_good l = rw (← e, le-leb t largest_count l)
-
 module _ (ms os : List ℕ) (end : ℕ) (p : Pass) where
-  pub total_surplus : (k : Refusal) (i : ℕ) → length ms ≤ p.field → i ≡ surplus_in end p → k ≡ placed 7 i → refused k ≡ total ms os end p
+  pub total_surplus : (k : Numbered) (i : ℕ) → length ms ≤ p.field → i ≡ surplus_in end p → k ≡ placed 7 i → refused k ≡ total ms os end p
   unfolding total
   total_surplus k i h e f = rw (le-ltb p.field (length ms) h, ← e) (ap refused f)
 
@@ -210,11 +146,11 @@ module _ (ms os : List ℕ) (end : ℕ) (p : Pass) where
     unfolding total or_fault
     total_missing n = rw (lt-ltb p.field (length ms) l, ← e, n)
 
-    pub total_count : (r : ReadAnswer) (a : ℕ) → f ≡ Faults.None → a ≡ sum_with p (get_or ms p.field 0) (get_or os p.field 0) → read_answer r ≡ count_of end (min (a * product (drop (p.field + 1) ms)) sum_cap) → read_answer r ≡ total ms os end p
+    pub total_count : (r : Result Reading Refusal) (a : ℕ) → f ≡ Faults.None → a ≡ sum_with p (get_or ms p.field 0) (get_or os p.field 0) → answer_of r ≡ count_of end (min (a * product (drop (p.field + 1) ms)) sum_cap) → answer_of r ≡ total ms os end p
     unfolding total sum_in or_fault
     total_count r a n g c = rw (lt-ltb p.field (length ms) l, ← e, n, ← g) c
 
-    module _ (k : Refusal) (i : ℕ) (d : i ≡ found_with p) where
+    module _ (k : Numbered) (i : ℕ) (d : i ≡ found_with p) where
       pub total_below : f ≡ Faults.Below → k ≡ placed 8 i → refused k ≡ total ms os end p
       unfolding total or_fault
       total_below n c = rw (lt-ltb p.field (length ms) l, ← e, n, ← d) (ap refused c)

@@ -4,10 +4,10 @@
 ghost use Rattle.std.specs.Prelude.{◌≡◌, not, ◌&&◌, cond, ◌+◌, ◌*◌, ◌≤◌, ◌<◌, min, length, drop};
 ghost use Rattle.base.specs.Scans.{product};
 ghost use Rattle.rules.specs.Text.{is_digit, is_mark};
-ghost use Rattle.rules.specs.Answer.{read_answer};
 ghost use Rattle.fields.specs.Pass.{field_cap, sum_cap, begun, faultless, is_surplus, value_fault, fault_in, fault_with, found_with, surplus_in, ticks_in, sum_with, fresh, next, digit_in, with_digit, with_blank, scan_from, front_scan_from, count_of, total};
+ghost use Rattle.rules.specs.Answer.{answer_of};
 
-use rules::{Layout, ReadAnswer, Reading};
+use rules::{Layout, Reading, Refusal};
 
 const LARGEST_FIELD: u64 = Layout::LARGEST_P + Layout::LARGEST_OFFSET;
 
@@ -108,71 +108,69 @@ pub fn scan_front(text: &[u8]) -> Scanned
 }
 
 // The count of a pass that reached the end of the text, the place `end`.
-pub fn count(moduli: &[u64], offsets: &[u64], end: usize, pass: Pass) -> ReadAnswer
+pub fn count(moduli: &[u64], offsets: &[u64], end: usize, pass: Pass) -> Result<Reading, Refusal>
     requires { length offsets.now ≡ length moduli.now }
-    ensures { read_answer result ≡ total moduli.now offsets.now end pass }
+    ensures { answer_of result ≡ total moduli.now offsets.now end pass }
 {
     let field = pass.field;
     if moduli.len() <= field {
-        return ReadAnswer::Refused(refusals::too_many_fields(surplus_in(end, pass)));
+        return Err(Refusal::TooManyFields {
+            at: surplus_in(end, pass),
+        });
     }
     let offset = offsets[field];
     let found = found_with(pass);
     match fault_with(pass, offset) {
         Fault::None => count_of(moduli, field, sum_with(pass, moduli[field], offset), end),
-        Fault::Missing => ReadAnswer::Refused(refusals::FIRST_FIELD_MISSING),
-        Fault::Below => ReadAnswer::Refused(refusals::field_below_offset(found)),
-        Fault::Above => ReadAnswer::Refused(refusals::too_large(found)),
-        Fault::Surplus => ReadAnswer::Refused(refusals::too_many_fields(found)),
+        Fault::Missing => Err(Refusal::FirstFieldMissing),
+        Fault::Below => Err(Refusal::FieldBelowOffset { at: found }),
+        Fault::Above => Err(Refusal::TooLarge { at: found }),
+        Fault::Surplus => Err(Refusal::TooManyFields { at: found }),
     }
 }
 
 // The count of a sum up to the last field given.
-fn count_of(moduli: &[u64], field: usize, sum: u64, end: usize) -> ReadAnswer
+#[tactic(auto, unfolding(crate::specs::Pass::count_of, rules::specs::Answer::unless_at, rules::specs::Answer::fails_at))]
+fn count_of(moduli: &[u64], field: usize, sum: u64, end: usize) -> Result<Reading, Refusal>
     requires { (field < length moduli.now) × (sum ≤ sum_cap) }
-    ensures { read_answer result ≡ count_of end (min (sum * product (drop (field + 1) moduli.now)) sum_cap) }
+    ensures { answer_of result ≡ count_of end (min (sum * product (drop (field + 1) moduli.now)) sum_cap) }
 {
     let ticks = in_ticks(moduli, field + 1, sum);
     if Layout::LARGEST_P < ticks {
-        return ReadAnswer::Refused(refusals::too_large(end));
+        return Err(Refusal::TooLarge { at: end });
     }
-    ReadAnswer::Read(Reading { count: ticks })
+    Ok(Reading { count: ticks })
 }
 
 // A digit that is not after a gap.
 fn begins_or_continues(byte: u8, gap: bool) -> bool
     ensures { result ≡ (not gap && is_digit byte) }
 {
-    if gap {
-        return false;
-    }
-    is_digit(byte)
+    !gap && is_digit(byte)
 }
 
 // After a gap a digit stands in the next field.
+#[tactic(auto, unfolding(crate::specs::Pass::with_digit))]
 fn with_digit(moduli: &[u64], offsets: &[u64], end: usize, pass: Pass, at: usize, d: u8) -> Pass
     requires { length offsets.now ≡ length moduli.now }
     ensures { result ≡ with_digit moduli.now offsets.now end pass at d }
 {
     if pass.gap {
-        return digit_in(next_field(moduli, offsets, end, pass), at, d);
+        digit_in(next_field(moduli, offsets, end, pass), at, d)
+    } else {
+        digit_in(pass, at, d)
     }
-    digit_in(pass, at, d)
 }
 
 fn digit_in(pass: Pass, at: usize, d: u8) -> Pass
     ensures { result ≡ digit_in pass at d }
 {
-    let fault = pass.fault;
     Pass {
-        field: pass.field,
         first: first_at(pass.present, pass.first, at),
         value: next_value(pass.value, d),
-        sum: pass.sum,
-        found: pass.found,
         present: true,
         gap: false,
-        fault,
+        ..pass
     }
 }
 
@@ -190,37 +188,21 @@ fn next_value(value: u64, d: u8) -> u64
     if FIELD_CAP <= value {
         return FIELD_CAP;
     }
-    let next = value * 10 + widened(d);
-    if FIELD_CAP < next {
-        return FIELD_CAP;
-    }
-    next
-}
-
-fn widened(x: u8) -> u64
-    ensures { result ≡ x }
-{
-    x as u64
+    (value * 10 + u64::from(d)).min(FIELD_CAP)
 }
 
 // Blanks open a gap only after a digit.
 fn with_blank(pass: Pass) -> Pass
     ensures { result ≡ with_blank pass }
 {
-    let fault = pass.fault;
     Pass {
-        field: pass.field,
-        first: pass.first,
-        value: pass.value,
-        sum: pass.sum,
-        found: pass.found,
-        present: pass.present,
         gap: pass.present,
-        fault,
+        ..pass
     }
 }
 
 // A mark: the field at hand ends. Faults before a surplus field no longer count.
+#[tactic(auto, unfolding(crate::specs::Pass::next))]
 fn next_field(moduli: &[u64], offsets: &[u64], end: usize, pass: Pass) -> Pass
     requires { length offsets.now ≡ length moduli.now }
     ensures { result ≡ next moduli.now offsets.now end pass }
@@ -260,11 +242,11 @@ fn fresh_field(field: usize, sum: u64, fault: Fault, found: usize) -> Pass
 }
 
 // Where the first surplus field is refused, which is the one at hand or one before it.
+#[tactic(auto, unfolding(crate::specs::Pass::surplus_in))]
 fn surplus_in(end: usize, pass: Pass) -> usize
     ensures { result ≡ surplus_in end pass }
 {
-    let fault = pass.fault;
-    if is_surplus(fault) {
+    if is_surplus(pass.fault) {
         return pass.found;
     }
     first_at(pass.present, pass.first, end)
@@ -273,13 +255,7 @@ fn surplus_in(end: usize, pass: Pass) -> usize
 fn is_surplus(fault: Fault) -> bool
     ensures { result ≡ is_surplus fault }
 {
-    match fault {
-        Fault::None => false,
-        Fault::Missing => false,
-        Fault::Below => false,
-        Fault::Above => false,
-        Fault::Surplus => true,
-    }
+    matches!(fault, Fault::Surplus)
 }
 
 // The ticks with those of the field at hand.
@@ -290,13 +266,15 @@ fn sum_with(pass: Pass, modulus: u64, offset: u64) -> u64
 }
 
 // A missing field adds no ticks, whatever its offset.
+#[tactic(auto, unfolding(crate::specs::Pass::ticks_in))]
 fn ticks_in(pass: Pass, offset: u64) -> u64
     ensures { result ≡ ticks_in pass offset }
 {
     if pass.present {
-        return wide::less(pass.value, offset);
+        pass.value.saturating_sub(offset)
+    } else {
+        0
     }
-    0
 }
 
 // `sum` times the moduli from the field `from` on.
@@ -305,48 +283,43 @@ fn in_ticks(moduli: &[u64], from: usize, sum: u64) -> u64
     ensures { result ≡ min (sum * product (drop from moduli.now)) sum_cap }
 {
     let mut ticks = sum;
-    let mut i = from;
-    while i < moduli.len() {
+    for i in from..moduli.len() {
         ticks = wide::mul_capped(ticks, moduli[i], SUM_CAP);
-        i += 1;
     }
     ticks
 }
 
 // The first fault, that of the field at hand included.
+#[tactic(auto, unfolding(crate::specs::Pass::fault_with))]
 fn fault_with(pass: Pass, offset: u64) -> Fault
     ensures { result ≡ fault_with pass offset }
 {
-    let fault = pass.fault;
-    if is_faultless(fault) {
-        return fault_in(pass, offset);
+    if is_faultless(pass.fault) {
+        fault_in(pass, offset)
+    } else {
+        pass.fault
     }
-    fault
 }
 
 // Where it stands.
+#[tactic(auto, unfolding(crate::specs::Pass::found_with))]
 fn found_with(pass: Pass) -> usize
     ensures { result ≡ found_with pass }
 {
-    let fault = pass.fault;
-    if is_faultless(fault) {
-        return pass.first;
+    if is_faultless(pass.fault) {
+        pass.first
+    } else {
+        pass.found
     }
-    pass.found
 }
 
 fn is_faultless(fault: Fault) -> bool
     ensures { result ≡ faultless fault }
 {
-    match fault {
-        Fault::None => true,
-        Fault::Missing => false,
-        Fault::Below => false,
-        Fault::Above => false,
-        Fault::Surplus => false,
-    }
+    matches!(fault, Fault::None)
 }
 
+#[tactic(auto, unfolding(crate::specs::Pass::fault_in))]
 fn fault_in(pass: Pass, offset: u64) -> Fault
     ensures { result ≡ fault_in pass offset }
 {
@@ -360,6 +333,7 @@ fn fault_in(pass: Pass, offset: u64) -> Fault
 }
 
 // Of a field that is there.
+#[tactic(auto, unfolding(crate::specs::Pass::value_fault))]
 fn value_fault(value: u64, offset: u64) -> Fault
     ensures { result ≡ value_fault value offset }
 {
@@ -375,23 +349,11 @@ fn value_fault(value: u64, offset: u64) -> Fault
 fn is_digit(byte: u8) -> bool
     ensures { result ≡ is_digit byte }
 {
-    if byte < b'0' {
-        return false;
-    }
-    byte <= b'9'
+    byte.is_ascii_digit()
 }
 
 fn is_mark(byte: u8) -> bool
     ensures { result ≡ is_mark byte }
 {
-    if byte == b'.' {
-        return true;
-    }
-    if byte == b':' {
-        return true;
-    }
-    if byte == b',' {
-        return true;
-    }
-    byte == b'-'
+    matches!(byte, b'.' | b':' | b',' | b'-')
 }

@@ -3,13 +3,14 @@
 
 ghost use Rattle.std.specs.Prelude.{◌≡◌};
 ghost use Rattle.kernel_rules.specs.Tables.{lists_of};
-ghost use Rattle.kernel_rules.specs.Kernel.{kernel_answer, kernel_given, read_kernel, lists_after};
+ghost use Rattle.kernel_rules.specs.Kernel.{kernel_given, read_kernel, lists_after};
+ghost use Rattle.rules.specs.Answer.{answer_of};
 
-use kernel_gather::{GatherAnswer, gather};
+use kernel_gather::gather;
 use kernel_give::give_gathered;
-use kernel_rules::KernelAnswer;
+use kernel_rules::Kernel;
 use layouts::limits::{MOST_PARTITIONS, MOST_SEGMENTS};
-use rules::Layout;
+use rules::{Layout, Refusal};
 
 // Reads the kernel text of the clock with this number, and writes its lists to the fronts of those lent.
 // A refusal leaves every lent list as it was.
@@ -23,8 +24,8 @@ pub fn read_kernel(
     counts: &mut [u64],
     times: &mut [i64],
     rates: &mut [u64],
-) -> KernelAnswer
-    ensures result_value { kernel_answer result ≡ kernel_given (read_kernel text.now clock (lists_of moduli.old offsets.old starts.old ends.old counts.old times.old rates.old)) }
+) -> Result<Kernel, Refusal>
+    ensures result_value { answer_of result ≡ kernel_given (read_kernel text.now clock (lists_of moduli.old offsets.old starts.old ends.old counts.old times.old rates.old)) }
     ensures rates_after { lists_of moduli.new offsets.new starts.new ends.new counts.new times.new rates.new ≡ lists_after (read_kernel text.now clock (lists_of moduli.old offsets.old starts.old ends.old counts.old times.old rates.old)) (lists_of moduli.old offsets.old starts.old ends.old counts.old times.old rates.old) }
 {
     // Nothing is lent on before all is known, so the lists are gathered here: 400 KB of stack.
@@ -35,13 +36,10 @@ pub fn read_kernel(
     let mut cs = [0u64; MOST_SEGMENTS + 1];
     let mut ts = [0i64; MOST_SEGMENTS + 1];
     let mut rs = [0u64; MOST_SEGMENTS + 1];
-    match gather(
+    let g = gather(
         text, clock, &mut ms, &mut os, &mut ss, &mut es, &mut cs, &mut ts, &mut rs,
-    ) {
-        GatherAnswer::Refused(k) => KernelAnswer::Refused(k),
-        GatherAnswer::Given(g) => give_gathered(
-            g, &ms, moduli, &os, offsets, &ss, starts, &es, ends, &cs, counts, &ts, times, &rs,
-            rates,
-        ),
-    }
+    )?;
+    give_gathered(
+        g, &ms, moduli, &os, offsets, &ss, starts, &es, ends, &cs, counts, &ts, times, &rs, rates,
+    )
 }

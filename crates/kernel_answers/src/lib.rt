@@ -3,7 +3,8 @@
 
 ghost use Rattle.put.specs.Places.{Put};
 
-use kernel_rules::{Kernel, KernelAnswer};
+use kernel_rules::Kernel;
+use put::Word;
 
 const LINE_END: u8 = b'\n';
 
@@ -28,39 +29,18 @@ pub fn put_kernel(
     let answer = kernel::read_kernel(
         text, clock, moduli, offsets, starts, ends, counts, times, rates,
     );
-    put_whole(
-        out, at, answer, moduli, offsets, starts, ends, counts, times, rates,
-    )
-}
-
-fn put_whole(
-    out: &mut [u8],
-    at: usize,
-    answer: KernelAnswer,
-    moduli: &[u64],
-    offsets: &[u64],
-    starts: &[u64],
-    ends: &[u64],
-    counts: &[u64],
-    times: &[i64],
-    rates: &[u64],
-) -> usize
-    ensures { Put at out.old result }
-{
-    let place = put_answer(out, at, answer);
-    let place = put_lists(out, place, moduli, offsets);
-    let place = put_lists(out, place, starts, ends);
-    let place = put_segments(out, place, counts, times, rates);
+    let place = match answer {
+        Ok(kernel) => put_read(out, at, kernel),
+        Err(refusal) => put::refusal(out, at, refusal),
+    };
+    let place = put_list(out, place, moduli);
+    let place = put_list(out, place, offsets);
+    let place = put_list(out, place, starts);
+    let place = put_list(out, place, ends);
+    let place = put_list(out, place, counts);
+    let place = put_list(out, place, times);
+    let place = put_list(out, place, rates);
     put::byte(out, place, LINE_END)
-}
-
-fn put_answer(out: &mut [u8], at: usize, answer: KernelAnswer) -> usize
-    ensures { Put at out.old result }
-{
-    match answer {
-        KernelAnswer::Read(kernel) => put_read(out, at, kernel),
-        KernelAnswer::Refused(refusal) => put::refusal(out, at, refusal),
-    }
 }
 
 fn put_read(out: &mut [u8], at: usize, kernel: Kernel) -> usize
@@ -80,31 +60,9 @@ fn put_word(out: &mut [u8], at: usize, head: &[u8], number: u64) -> usize
     put::number(out, place, number)
 }
 
-fn put_lists(out: &mut [u8], at: usize, one: &[u64], other: &[u64]) -> usize
-    ensures { Put at out.old result }
-{
-    let place = put_list(out, at, one);
-    put_list(out, place, other)
-}
-
-fn put_segments(out: &mut [u8], at: usize, counts: &[u64], times: &[i64], rates: &[u64]) -> usize
-    ensures { Put at out.old result }
-{
-    let place = put_list(out, at, counts);
-    let place = put_times(out, place, times);
-    put_list(out, place, rates)
-}
-
-fn put_list(out: &mut [u8], at: usize, list: &[u64]) -> usize
+fn put_list<T: Word>(out: &mut [u8], at: usize, list: &[T]) -> usize
     ensures { Put at out.old result }
 {
     let place = put::byte(out, at, BLANK);
     put::list(out, place, list)
-}
-
-fn put_times(out: &mut [u8], at: usize, times: &[i64]) -> usize
-    ensures { Put at out.old result }
-{
-    let place = put::byte(out, at, BLANK);
-    put::times(out, place, times)
 }

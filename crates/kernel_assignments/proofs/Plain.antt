@@ -1,24 +1,16 @@
--- Data lines and empty lines by their bytes, as the code meets them.
+-- Plain lines and empty lines by their bytes, as the code meets them.
 use Prim.Native.Nat.{ℕ, ◌+◌, ◌≤◌, ◌<◌}
 use mathlib.Core.Path.{◌≡◌, refl, sym, ◌∙◌}
 use mathlib.Core.Bool.{Bool, true, false, cond, ◌&&◌}
 use mathlib.Core.List.{List, [], ◌∷◌}
-use lib.Dec.{eqb, leb}
+use lib.Dec.{eqb}
 use lib.ListN.{length, drop, get_or, drop_of_length-le}
-use borrow.Author.Tests.{eq-eqb, ne_eqb, eqb-true, lt-leb, le-leb}
+use borrow.Author.Tests.{eq-eqb, eqb-true}
 use native.Mathlib.Omega.{arith}
 use Rattle.base.specs.Scans.{all}
 use Rattle.base.proofs.Tests.{by_test, not_both, same_test}
 use Rattle.base.proofs.Lists.{drop_next}
-use Rattle.kernel_rules.specs.Lines.{is_gap, is_plain, is_data_line, is_empty_line, longest_line, span, after_gap}
-
--- one byte
-module _ (b : ℕ) where
-  pub plain_low : b < 32 → eqb b 9 ≡ is_plain b
-  plain_low h = rw (lt-leb 32 b h)
-
-  pub plain_high : 32 ≤ b → leb b 126 ≡ is_plain b
-  plain_high h = rw (le-leb 32 b h) (by_test (leb b 126) (λ t. rw t) (λ f. rw (f, ne_eqb b 9 (λ e. omega arith))))
+use Rattle.kernel_rules.specs.Lines.{is_gap, is_plain, is_empty_line, span, after_gap}
 
 -- every byte, without a way out of the loop: so it is worked out many bytes at a time
 and_assoc : (a b c : Bool) → (a && (b && c)) ≡ ((a && b) && c)
@@ -40,15 +32,6 @@ module _ (l : List ℕ) (good : Bool) (i : ℕ) (e : all is_plain l ≡ (good &&
   pub plain_end : length l ≤ i → good ≡ all is_plain l
   unfolding all
   plain_end h = sym (e ∙ rw (drop_of_length-le l h) (and-true good))
-
--- a data line
-pub line_long : (l : List ℕ) → longest_line < length l → false ≡ is_data_line l
-unfolding is_data_line
-line_long l h = rw (lt-leb (length l) longest_line h)
-
-pub line_short : (l : List ℕ) (t : Bool) → length l ≤ longest_line → t ≡ all is_plain l → t ≡ is_data_line l
-unfolding is_data_line
-line_short l t h e = e ∙ rw (le-leb (length l) longest_line h)
 
 -- an empty line
 span_all : (p : ℕ → Bool) (s : List ℕ) → all p s ≡ true → span p s ≡ length s

@@ -1,16 +1,14 @@
 -- The two markers, and the stage after a line.
 use Prim.Native.Nat.{ℕ, zero, suc, ◌+◌, ◌-◌, ◌≤◌, ◌<◌}
 use mathlib.Core.Path.{◌≡◌, refl, ◌∙◌}
-use mathlib.Core.Bool.{Bool, true, false, not, cond}
+use mathlib.Core.Bool.{Bool, true, false}
 use mathlib.Core.List.{List, [], ◌∷◌}
 use lib.ListN.{length, take, drop, get_or, drop_of_length-le}
-use borrow.Author.Tests.{ne_eqb, not-true, not-false}
+use borrow.Author.Tests.{ne_eqb}
 use Rattle.base.proofs.Lists.{drop_next}
 use Rattle.kernel_rules.specs.declared.Stage.{Stage}
-use Rattle.kernel_rules.specs.declared.Stage.TheVariants.{Data, Forbidden}
-use Rattle.kernel_rules.specs.Lines.{is_gap, after_gap, trim_to, part, same, begin_data, begin_text, is_marker, is_data_line, is_empty_line}
-use Rattle.kernel_rules.specs.Tokens.{tokens_of, items}
-use Rattle.kernel_rules.specs.Assignments.{assigned, begins_data, begins_text, plain_stage, after_line}
+use Rattle.kernel_rules.specs.Lines.{is_gap, after_gap, trim_to, part, same, begin_data, begin_text, is_marker}
+use Rattle.kernel_rules.specs.Assignments.{begins_data, begins_text, plain_stage, after_line}
 use Rattle.kernel_heads.specs.declared.Part.{Part}
 use Rattle.kernel_heads.specs.Parts.{Stripped}
 
@@ -65,25 +63,3 @@ module _ (p r : Stage) (l : List ℕ) (t : Bool) (y : t ≡ is_marker begin_data
     pub line_plain : u ≡ false → r ≡ plain_stage p l → r ≡ after_line p l
     unfolding after_line
     line_plain h e = e ∙ rw (← y, f, ← z, h)
-
--- a line of data
-module _ (p : Stage) (l : List ℕ) (t : Bool) (y : t ≡ is_data_line l) where
-  pub list_line : (r : Stage) → t ≡ true → r ≡ items p (tokens_of (drop 0 l)) → r ≡ cond (is_data_line l) (items p (tokens_of l)) Forbidden
-  list_line r h e = e ∙ rw (← y, h)
-
-  pub list_forbidden : t ≡ false → Forbidden ≡ cond (is_data_line l) (items p (tokens_of l)) Forbidden
-  list_forbidden h = rw (← y, h)
-
-module _ (l : List ℕ) (t : Bool) (y : t ≡ is_data_line l) where
-  pub data_forbidden : not t ≡ true → Forbidden ≡ plain_stage Data l
-  unfolding plain_stage
-  data_forbidden h = rw (← y, not-true t h)
-
-  module _ (h : not t ≡ false) (u : Bool) (z : u ≡ is_empty_line l) where
-    pub data_empty : u ≡ true → Data ≡ plain_stage Data l
-    unfolding plain_stage
-    data_empty k = rw (← y, not-false t h, ← z, k)
-
-    pub data_assigned : (r : Stage) → u ≡ false → r ≡ assigned l → r ≡ plain_stage Data l
-    unfolding plain_stage
-    data_assigned r k e = e ∙ rw (← y, not-false t h, ← z, k)

@@ -1,7 +1,7 @@
 // One line of a kernel text: the marker, the assignment or the part of a list that it is, and the stage that it leaves.
 #![tactic(auto)]
 
-ghost use Rattle.std.specs.Prelude.{◌≡◌, cond, ◌&&◌, ◌≤◌, length, drop};
+ghost use Rattle.std.specs.Prelude.{◌≡◌, cond, ◌≤◌, length, drop};
 ghost use Rattle.base.specs.Scans.{all};
 ghost use Rattle.kernel_rules.specs.Lines.{is_plain, is_data_line, is_empty_line, is_marker};
 ghost use Rattle.kernel_rules.specs.Tokens.{tokens_of, items};
@@ -37,47 +37,37 @@ pub fn is_marker(m: &[u8], l: &[u8]) -> bool
     ensures { result ≡ is_marker m.now l.now }
 {
     let whole = stripped(l, l.len());
-    let start = whole.start;
-    let end = whole.end;
-    same(&l[start..end], m)
+    same(&l[whole.start..whole.end], m)
 }
 
+#[tactic(auto, unfolding(kernel_rules::specs::Assignments::begins_data))]
 fn begins_data(p: Stage) -> Stage
     ensures { result ≡ begins_data p }
 {
     match p {
         Stage::Comment => Stage::Data,
-        Stage::Data => Stage::Data,
-        Stage::Opened => Stage::Opened,
-        Stage::Numbers => Stage::Numbers,
-        Stage::Strings => Stage::Strings,
-        Stage::Forbidden => Stage::Forbidden,
+        Stage::Data | Stage::Opened | Stage::Numbers | Stage::Strings | Stage::Forbidden => p,
     }
 }
 
+#[tactic(auto, unfolding(kernel_rules::specs::Assignments::begins_text))]
 fn begins_text(p: Stage) -> Stage
     ensures { result ≡ begins_text p }
 {
     match p {
-        Stage::Comment => Stage::Comment,
-        Stage::Data => Stage::Comment,
-        Stage::Opened => Stage::Forbidden,
-        Stage::Numbers => Stage::Forbidden,
-        Stage::Strings => Stage::Forbidden,
-        Stage::Forbidden => Stage::Forbidden,
+        Stage::Comment | Stage::Data => Stage::Comment,
+        Stage::Opened | Stage::Numbers | Stage::Strings | Stage::Forbidden => Stage::Forbidden,
     }
 }
 
+#[tactic(auto, unfolding(kernel_rules::specs::Assignments::plain_stage))]
 fn plain_stage(p: Stage, l: &[u8]) -> Stage
     ensures { result ≡ plain_stage p l.now }
 {
     match p {
-        Stage::Comment => Stage::Comment,
+        Stage::Comment | Stage::Forbidden => p,
         Stage::Data => data_stage(l),
-        Stage::Opened => list_stage(Stage::Opened, l),
-        Stage::Numbers => list_stage(Stage::Numbers, l),
-        Stage::Strings => list_stage(Stage::Strings, l),
-        Stage::Forbidden => Stage::Forbidden,
+        Stage::Opened | Stage::Numbers | Stage::Strings => list_stage(p, l),
     }
 }
 
@@ -85,11 +75,13 @@ fn list_stage(p: Stage, l: &[u8]) -> Stage
     ensures { result ≡ cond (is_data_line l.now) (items p (tokens_of l.now)) Stage.Forbidden }
 {
     if is_data_line(l) {
-        return items_from(l, 0, p);
+        items_from(l, 0, p)
+    } else {
+        Stage::Forbidden
     }
-    Stage::Forbidden
 }
 
+#[tactic(auto, unfolding(kernel_rules::specs::Assignments::plain_stage))]
 fn data_stage(l: &[u8]) -> Stage
     ensures { result ≡ plain_stage Stage.Data l.now }
 {
@@ -102,13 +94,11 @@ fn data_stage(l: &[u8]) -> Stage
     assigned_stage(l)
 }
 
+#[tactic(auto, unfolding(kernel_rules::specs::Lines::is_data_line))]
 fn is_data_line(l: &[u8]) -> bool
     ensures { result ≡ is_data_line l.now }
 {
-    if LONGEST_LINE < l.len() {
-        return false;
-    }
-    all_plain(l)
+    l.len() <= LONGEST_LINE && all_plain(l)
 }
 
 // Over the whole line, with no way out before its end: so the compiler takes many bytes at a time.
@@ -116,30 +106,16 @@ fn all_plain(l: &[u8]) -> bool
     ensures { result ≡ all is_plain l.now }
 {
     let mut good = true;
-    let mut i = 0;
-    while i < l.len() {
-        good = both(good, is_plain(l[i]));
-        i += 1;
+    for b in l {
+        good &= is_plain(*b);
     }
     good
-}
-
-fn both(a: bool, b: bool) -> bool
-    ensures { result ≡ (a && b) }
-{
-    if a {
-        return b;
-    }
-    false
 }
 
 fn is_plain(b: u8) -> bool
     ensures { result ≡ is_plain b }
 {
-    if b < b' ' {
-        return b == b'\t';
-    }
-    b <= b'~'
+    b' ' <= b && b <= b'~' || b == b'\t'
 }
 
 fn is_empty_line(l: &[u8]) -> bool
@@ -156,9 +132,7 @@ fn assigned_stage(l: &[u8]) -> Stage
         return Stage::Forbidden;
     }
     let name = name_in(l);
-    let start = name.start;
-    let end = name.end;
-    if !is_name(&l[start..end]) {
+    if !is_name(&l[name.start..name.end]) {
         return Stage::Forbidden;
     }
     value_stage(l, equals + 1)

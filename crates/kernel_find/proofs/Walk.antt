@@ -8,6 +8,7 @@ use lib.ListN.{length, drop, get_or, set, replicate, length-append, length-set}
 use lib.Seq.{get_or-set_same, get_or-set_other}
 use borrow.Author.Tests.{eq-eqb, ne_eqb, eqb-true, eqb-false, lt-ltb, le-ltb, le-leb, lt-leb}
 use native.Mathlib.Omega.{arith}
+use Rattle.std.specs.Prelude.{Some, None}
 use Rattle.base.specs.Scans.{all_below}
 use Rattle.base.proofs.Tests.{by_test, not_both, and_out_second}
 use Rattle.base.proofs.Scans.{all_from, all_out}
@@ -123,15 +124,8 @@ module _ (s : List ℕ) (from : ℕ) (digits slots : List ℕ) (at : ℕ) (stage
     pub walk_turn : (v : ℕ) (st : Stage) → get_or slots k 0 ≡ 0 → v ≡ cond (ltb k names) at 0 → st ≡ after_line stage (part s at r.end) → at < r.next → r.next ≤ length s → Walk s from digits (set slots k v) r.next st
     walk_turn v st z ev es hn hl = free_slot (part s at r.end) (lines_from s r.next) (lines_here s at r er h) k ek v r.next st hk z ev es h line_here_lem hn hl refl
 
-    pub walk_twice : (get_or slots k 0 ≡ 0 → ⊥) → FoundAll s from digits (record { good = false; slots = slots })
-    walk_twice f =
-        record {
-          good = taken_slot (part s at r.end) (lines_from s r.next) (lines_here s at r er h) k ek hk f;
-          assigned = λ x. absurd (not_both x refl);
-          long = w.long;
-          within = record { place = w.before };
-          behind = w.behind;
-        }
+    pub walk_twice : (get_or slots k 0 ≡ 0 → ⊥) → FoundAll s from digits None
+    walk_twice f = sym (taken_slot (part s at r.end) (lines_from s r.next) (lines_here s at r er h) k ek hk f)
 
   -- the text's end
   module _ (h : length s ≤ at) where
@@ -146,16 +140,22 @@ module _ (s : List ℕ) (from : ℕ) (digits slots : List ℕ) (at : ℕ) (stage
     few : all_below (λ k. leb (length (given digits k Comment (lines_from s from))) 1) names ≡ true
     few = all_from (λ k. leb (length (given digits k Comment (lines_from s from))) 1) names (λ k l. le-leb (length (given digits k Comment (lines_from s from))) 1 (rw (all_given k l) (slot_few s (get_or slots k 0))))
 
-    pub walk_end : (g : Bool) → g ≡ ends_well stage → FoundAll s from digits (record { good = g; slots = slots })
+    form_told : (g : Bool) → g ≡ ends_well stage → form_ok digits (lines_from s from) ≡ g
     unfolding form_ok
-    walk_end g e =
+    form_told g e = sym (e ∙ rw (stage_last, few) (sym (and-true (ends_well stage))))
+
+    pub walk_end : (g : Bool) → g ≡ ends_well stage → g ≡ true → FoundAll s from digits (Some slots)
+    walk_end g e t =
         record {
-          good = e ∙ rw (stage_last, few) (sym (and-true (ends_well stage)));
-          assigned = λ x k l. all_given k l;
+          good = form_told g e ∙ t;
+          assigned = λ k l. all_given k l;
           long = w.long;
           within = record { place = w.before };
           behind = w.behind;
         }
+
+    pub walk_bad : (g : Bool) → g ≡ ends_well stage → g ≡ false → FoundAll s from digits None
+    walk_bad g e t = form_told g e ∙ t
 
 -- no line yet
 abbrev zeros : ℕ → List ℕ
@@ -182,11 +182,3 @@ walk_start s from digits p h =
   where
     none : (k : ℕ) → 0 < get_or (zeros 11) k 0 → ⊥
     none k x = omega (arith, zeros_at 11 k)
-
--- what a slot keeps
-module _ (k at : ℕ) where
-  pub place_of_name : k < names → at ≡ cond (ltb k names) at 0
-  place_of_name h = rw (lt-ltb k names h)
-
-  pub no_place : names ≤ k → 0 ≡ cond (ltb k names) at 0
-  no_place h = rw (le-ltb k names h)

@@ -1,4 +1,7 @@
 -- From the checks and the handing out to what the call answers and leaves in the lent lists.
+use Rattle.rules.specs.declared.refusal.Refusal.TheVariants as R
+use Rattle.rules.specs.declared.refusal.Refusal.{Refusal}
+use Rattle.std.specs.Prelude.{Result, Ok, Err}
 use Prim.Native.Nat.{ℕ, ◌≤◌, ◌<◌, min}
 use mathlib.Core.Path.{◌≡◌, refl, sym, ap, ◌∙◌}
 use mathlib.Core.List.{List}
@@ -10,14 +13,11 @@ use lib.Seq.{length-take-le, take_all}
 use borrow.Author.Tests.{leb-true, leb-false}
 use native.Mathlib.Omega.{arith}
 use Rattle.base.proofs.Tests.{by_test}
-use Rattle.rules.specs.declared.Refusal.{Refusal}
-use Rattle.rules.specs.Answer.{Answer, answer, refused, numbered, unless, and_then}
+use Rattle.rules.specs.Answer.{Answer, answer, refused, unless, and_then, Numbered, as_numbered, answer_of}
 use Rattle.rules.proofs.Answers.{payload, not_answer, unless-rest, unless-at-rest}
 use Rattle.kernel_rules.specs.declared.Kernel.{Kernel}
-use Rattle.kernel_rules.specs.declared.KernelAnswer.{KernelAnswer}
-use Rattle.kernel_rules.specs.declared.KernelAnswer.TheVariants as Kernels
 use Rattle.kernel_rules.specs.Tables.{Lists, Tables}
-use Rattle.kernel_rules.specs.Kernel.{kernel_answer, kernel_given, fits, lists_after}
+use Rattle.kernel_rules.specs.Kernel.{kernel_given, fits, lists_after}
 use Rattle.kernel_tables.specs.Given.{tables_with, Kept, kept_with, kept_accepted}
 use Rattle.kernel_lists.specs.Handed.{handed}
 use Rattle.kernel_gather.specs.declared.Gathered.{Gathered}
@@ -35,28 +35,28 @@ unfolding kernel_given
 answered (answer u) k h = (u, refl)
 answered (refused j) k h = absurd (not_answer (sym h))
 
-given_refused : (a : Answer Tables) (k : Refusal) → refused k ≡ kernel_given a → a ≡ refused k
+given_refused : (a : Answer Tables) (k : Numbered) → refused k ≡ kernel_given a → a ≡ refused k
 unfolding kernel_given
 given_refused (answer u) k h = absurd (not_answer h)
 given_refused (refused j) k h = let z : k ≡ j = cc in rw z
 
-module _ (k : Kept) (lent : Lists) (r : KernelAnswer) (e : kernel_answer r ≡ kernel_given (kept_accepted k)) where
-  pub give_refused : (why : Refusal) → r ≡ Kernels.Refused why → Gives k lent (Kernels.Refused why) lent
+module _ (k : Kept) (lent : Lists) (r : Result Kernel Refusal) (e : answer_of r ≡ kernel_given (kept_accepted k)) where
+  pub give_refused : (why : Refusal) → r ≡ Err why → Gives k lent (Err why) lent
   unfolding fitting and_then kernel_given lists_after
-  give_refused why h = let w : kept_accepted k ≡ refused why = given_refused (kept_accepted k) why (rw h at e) in record { given = rw w; lists = rw w }
+  give_refused why h = let w : kept_accepted k ≡ refused (as_numbered why) = given_refused (kept_accepted k) (as_numbered why) (rw h at e) in record { given = rw w; lists = rw w }
 
-  module _ (v : Kernel) (h : r ≡ Kernels.Read v) where
+  module _ (v : Kernel) (h : r ≡ Ok v) where
     abbrev t : Tables
     t = k.tables
 
     good : kept_accepted k ≡ answer t
     good = let a = answered (kept_accepted k) v (rw h at e) in a.1 ∙ ap (λ (u : Tables). answer u) (sym (accepted_is k a.0 a.1))
 
-    pub give_short : (b : Bool) (after : Lists) → b ≡ fits t.lists lent → b ≡ false → after ≡ handed b t.lists lent → Gives k lent (Kernels.Refused (numbered 16)) after
+    pub give_short : (b : Bool) (after : Lists) → b ≡ fits t.lists lent → b ≡ false → after ≡ handed b t.lists lent → Gives k lent (Err R.BufferTooShort) after
     unfolding fitting and_then kernel_given lists_after unless handed
     give_short b after f n l = let w : fits t.lists lent ≡ false = sym f ∙ n in record { given = rw (good, w); lists = l ∙ rw (n, good, w) }
 
-    pub give_read : (b : Bool) (after : Lists) → b ≡ fits t.lists lent → b ≡ true → after ≡ handed b t.lists lent → Gives k lent (Kernels.Read v) after
+    pub give_read : (b : Bool) (after : Lists) → b ≡ fits t.lists lent → b ≡ true → after ≡ handed b t.lists lent → Gives k lent (Ok v) after
     unfolding fitting and_then lists_after unless handed
     give_read b after f y l =
         let w : fits t.lists lent ≡ true = sym f ∙ y in
@@ -90,7 +90,7 @@ module _ (g : Gathered) (ms os ss es cs : List ℕ) (ts : List ℤ) (rs : List �
       → partitions ≡ min g.starts g.ends
       → shorter ≡ min g.times g.rates
       → segments ≡ min g.counts shorter
-      → (lent : Lists) (a : KernelAnswer) (after : Lists)
+      → (lent : Lists) (a : Result Kernel Refusal) (after : Lists)
       → Gives (kept_with (tables_with g.n g.delimiter g.system (take m ms) (take o os) (take s ss) (take e es) (take c cs) (take t ts) (take r rs)) partitions segments) lent a after
       → Gives (kept_in g ms os ss es cs ts rs) lent a after
   all_there em eo es' ee ec et er ep eu eq lent a after given =

@@ -1,7 +1,7 @@
 // Gathered tables, checked and handed out: 1, 2 and 3, then 16.
 #![tactic(auto)]
 
-ghost use Rattle.std.specs.Prelude.{◌≡◌, min};
+ghost use Rattle.std.specs.Prelude.{◌≡◌};
 ghost use Rattle.kernel_rules.specs.Tables.{lists_of};
 ghost use Rattle.kernel_tables.specs.Given.{tables_with, kept_with};
 ghost use Rattle.kernel_gather.specs.Gathered.{kept_in};
@@ -9,8 +9,9 @@ ghost use Rattle.kernel_give.specs.Fitting.{Gives};
 
 use kernel_gather::Gathered;
 use kernel_lists::hand_out;
-use kernel_rules::KernelAnswer;
+use kernel_rules::Kernel;
 use kernel_tables::check;
+use rules::Refusal;
 
 // The lists at the fronts of the arrays, as far as these keep them, checked and handed out.
 pub fn give_gathered(
@@ -29,18 +30,18 @@ pub fn give_gathered(
     times: &mut [i64],
     rs: &[u64],
     rates: &mut [u64],
-) -> KernelAnswer
+) -> Result<Kernel, Refusal>
     ensures { Gives (kept_in g ms.now os.now ss.now es.now cs.now ts.now rs.now) (lists_of moduli.old offsets.old starts.old ends.old counts.old times.old rates.old) result (lists_of moduli.new offsets.new starts.new ends.new counts.new times.new rates.new) }
 {
-    let partitions = smaller(g.starts, g.ends);
-    let segments = smaller(g.counts, smaller(g.times, g.rates));
-    let m = smaller(g.moduli, ms.len());
-    let o = smaller(g.offsets, os.len());
-    let s = smaller(g.starts, ss.len());
-    let e = smaller(g.ends, es.len());
-    let c = smaller(g.counts, cs.len());
-    let t = smaller(g.times, ts.len());
-    let r = smaller(g.rates, rs.len());
+    let partitions = g.starts.min(g.ends);
+    let segments = g.counts.min(g.times.min(g.rates));
+    let m = g.moduli.min(ms.len());
+    let o = g.offsets.min(os.len());
+    let s = g.starts.min(ss.len());
+    let e = g.ends.min(es.len());
+    let c = g.counts.min(cs.len());
+    let t = g.times.min(ts.len());
+    let r = g.rates.min(rs.len());
     give(
         g.n,
         g.delimiter,
@@ -64,12 +65,6 @@ pub fn give_gathered(
     )
 }
 
-fn smaller(a: usize, b: usize) -> usize
-    ensures { result ≡ min a b }
-{
-    if a < b { a } else { b }
-}
-
 // Accepted tables go to the lent lists.
 fn give(
     n: u64,
@@ -91,20 +86,17 @@ fn give(
     times: &mut [i64],
     rs: &[u64],
     rates: &mut [u64],
-) -> KernelAnswer
+) -> Result<Kernel, Refusal>
     ensures { Gives (kept_with (tables_with n delimiter system ms.now os.now ss.now es.now cs.now ts.now rs.now) partitions segments) (lists_of moduli.old offsets.old starts.old ends.old counts.old times.old rates.old) result (lists_of moduli.new offsets.new starts.new ends.new counts.new times.new rates.new) }
 {
-    match check(
+    let k = check(
         n, delimiter, system, partitions, segments, ms, os, ss, es, cs, ts, rs,
+    )?;
+    if hand_out(
+        ms, moduli, os, offsets, ss, starts, es, ends, cs, counts, ts, times, rs, rates,
     ) {
-        KernelAnswer::Refused(k) => KernelAnswer::Refused(k),
-        KernelAnswer::Read(k) => {
-            if hand_out(
-                ms, moduli, os, offsets, ss, starts, es, ends, cs, counts, ts, times, rs, rates,
-            ) {
-                return KernelAnswer::Read(k);
-            }
-            KernelAnswer::Refused(refusals::BUFFER_TOO_SHORT)
-        }
+        Ok(k)
+    } else {
+        Err(Refusal::BufferTooShort)
     }
 }

@@ -1,14 +1,14 @@
 -- The seven tests of a heading as the code asks them, and what stands at the place of a name.
 use Prim.Native.Nat.{ℕ, ◌<◌}
 use mathlib.Core.Path.{◌≡◌, refl, sym, ◌∙◌}
-use mathlib.Core.Bool.{Bool, true, false, not, ◌&&◌, ◌||◌, and-true}
+use mathlib.Core.Bool.{Bool, true, false, not, ◌&&◌, ◌||◌, cond, and-true}
 use mathlib.Core.List.{List, [], ◌∷◌}
 use lib.Dec.{eqb}
 use lib.ListN.{length, get_or}
 use borrow.Author.Tests.{eq-eqb, ne_eqb}
 use native.Mathlib.Omega.{arith}
 use Rattle.base.specs.Scans.{all_of, among}
-use Rattle.base.proofs.Tests.{by_test}
+use Rattle.base.proofs.Tests.{by_test, not_both}
 use Rattle.kernel_rules.specs.declared.Number.{Number}
 use Rattle.kernel_rules.specs.declared.Number.TheVariants.{Plus}
 use Rattle.kernel_rules.specs.Assignments.{is_plus, values_of}
@@ -19,55 +19,18 @@ use Rattle.kernel_find.specs.Slots.{assignment_at, slot_at, Placed}
 use Rattle.kernel_walk.specs.Places.{line_here, lines_behind}
 use Rattle.kernel_values.specs.declared.One.{One}
 use Rattle.kernel_values.specs.Reads.{is_formed, first_number, one_read}
-use Rattle.kernel_values.proofs.Tests.{all_out, all_in, all_last}
 use Rattle.kernel_values.proofs.Numbers.{formed_is}
-use Rattle.kernel_heading.specs.declared.Single.{Single}
-use Rattle.kernel_heading.specs.Names.{number_given, is_system, system_of, heading_of}
-use Rattle.kernel_heading.proofs.Names.{one_of}
-
-pub all_seven_last : (a b c d e f g : Bool) → not a ≡ false → not b ≡ false → not c ≡ false → not d ≡ false → not e ≡ false → not f ≡ false → g ≡ all_of (a ∷ b ∷ c ∷ d ∷ e ∷ f ∷ g ∷ [])
-all_seven_last a b c d e f g ha hb hc hd he hf =
-    all_in g a _ ha (all_in g b _ hb (all_in g c _ hc (all_in g d _ hd (all_in g e _ he (all_in g f _ hf (all_last g))))))
-
-pub all_seven_sixth : (a b c d e f g : Bool) → not a ≡ false → not b ≡ false → not c ≡ false → not d ≡ false → not e ≡ false → not f ≡ true → false ≡ all_of (a ∷ b ∷ c ∷ d ∷ e ∷ f ∷ g ∷ [])
-all_seven_sixth a b c d e f g ha hb hc hd he hf =
-    all_in false a _ ha (all_in false b _ hb (all_in false c _ hc (all_in false d _ hd (all_in false e _ he (all_out f _ hf)))))
-
--- the last test of a name: it is the ID, or its value is a number
-pub given_id : (k : ℕ) (b : Bool) → k ≡ 0 → true ≡ all_of ((eqb k 0 || b) ∷ [])
-unfolding all_of
-given_id k b h = rw (eq-eqb k 0 h)
-
-pub given_number : (k : ℕ) (x b : Bool) → (k ≡ 0 → ⊥) → x ≡ b → x ≡ all_of ((eqb k 0 || b) ∷ [])
-unfolding all_of
-given_number k x b h e = e ∙ rw (ne_eqb k 0 h) (sym (and-true b))
-
-pub system_first : (n : Number) (t : Bool) → t ≡ is_exactly 1 n → t ≡ true → true ≡ is_system n
-unfolding is_system
-system_first n t e h = rw (← e, h)
-
-pub system_second : (n : Number) (t u : Bool) → t ≡ is_exactly 1 n → t ≡ false → u ≡ is_exactly 2 n → u ≡ is_system n
-unfolding is_system
-system_second n t u e h f = rw (← e, h, ← f)
-
-pub system_two : (n : Number) (t : Bool) → t ≡ is_exactly 2 n → t ≡ true → ◌≡◌ {A = ℕ} 2 (system_of n)
-unfolding system_of
-system_two n t e h = rw (← e, h)
-
-pub system_one : (n : Number) (t : Bool) → t ≡ is_exactly 2 n → t ≡ false → ◌≡◌ {A = ℕ} 1 (system_of n)
-unfolding system_of
-system_one n t e h = rw (← e, h)
+use Rattle.std.specs.Prelude.{Option, Some, None}
+use Rattle.kernel_heading.specs.declared.Heading.{Heading}
+use Rattle.kernel_heading.specs.Names.{number_given, is_system, system_of, single_of, heading_good, heading_of, heading_read}
+use Rattle.kernel_heading.proofs.Names.{one_of, HeadingFacts, heading_facts}
 
 -- what stands at the place of a name
 module _ (text : List ℕ) (at k : ℕ) where
   module _ (absent : at ≡ 0) where
-    pub absent_good : (r : Single) → r ≡ record { good = eqb k 2; number = Plus 1 } → r.good ≡ name_ok k (slot_at text at)
-    unfolding slot_at name_ok
-    absent_good r e = rw (e, eq-eqb at 0 absent)
-
-    pub absent_number : (r : Single) → r ≡ record { good = eqb k 2; number = Plus 1 } → r.number ≡ number_given (slot_at text at)
-    unfolding slot_at number_given
-    absent_number r e = rw (e, eq-eqb at 0 absent)
+    pub single_absent : (r : Option Number) → r ≡ cond (eqb k 2) (Some (Plus 1)) None → r ≡ single_of k (slot_at text at)
+    unfolding slot_at name_ok number_given single_of
+    single_absent r e = e ∙ rw (eq-eqb at 0 absent)
 
   module _ (there : at ≡ 0 → ⊥) (one : One) (read : one ≡ one_read (line_here text at) (lines_behind text at)) where
     abbrev vs : List (List ℕ)
@@ -81,13 +44,20 @@ module _ (text : List ℕ) (at k : ℕ) where
     tests : (p : Bool) (us : List (List ℕ)) → (p && (eqb (length us) 1 && ((eqb k 0 || is_formed (first_number us)) && true))) ≡ (p && (eqb (length us) 1 && ((eqb k 0 || every is_number us) && true)))
     tests p us = by_test (eqb (length us) 1) (λ t. rw (t, formed us t)) (λ f. rw f)
 
-    pub given_good : (r : Single) → is_list k ≡ false → r ≡ record { good = all_of (one.plain ∷ one.single ∷ (eqb k 0 || is_formed one.number) ∷ []); number = one.number } → r.good ≡ name_ok k (slot_at text at)
-    unfolding slot_at assignment_at name_ok one_read all_of
-    given_good r l e = rw (e, read, ne_eqb at 0 there, l) (tests (not (is_plus (line_here text at))) vs)
+    abbrev given : Bool
+    given = all_of (one.plain ∷ one.single ∷ (eqb k 0 || is_formed one.number) ∷ [])
 
-    pub given_value : (r : Single) → r ≡ record { good = all_of (one.plain ∷ one.single ∷ (eqb k 0 || is_formed one.number) ∷ []); number = one.number } → r.number ≡ number_given (slot_at text at)
+    given_good : is_list k ≡ false → given ≡ name_ok k (slot_at text at)
+    unfolding slot_at assignment_at name_ok one_read all_of
+    given_good l = rw (read, ne_eqb at 0 there, l) (tests (not (is_plus (line_here text at))) vs)
+
+    given_value : one.number ≡ number_given (slot_at text at)
     unfolding slot_at assignment_at number_given one_read
-    given_value r e = rw (e, read, ne_eqb at 0 there)
+    given_value = rw (read, ne_eqb at 0 there)
+
+    pub single_given : (r : Option Number) → is_list k ≡ false → r ≡ cond given (Some one.number) None → r ≡ single_of k (slot_at text at)
+    unfolding single_of
+    single_given r l e = e ∙ rw (given_good l, given_value)
 
 -- the places of the names with one value
 module _ (n : ℕ) (slots : List ℕ) (p : Placed n slots) where
@@ -114,19 +84,71 @@ module _ (n : ℕ) (slots : List ℕ) (p : Placed n slots) where
   unfolding among
   asks_delimiter = asks 6 (omega arith) refl
 
--- the heading from its parts
-module _ (g : ℕ → List Assignment) (id kind sys fields code : Single)
-    (i : id.good ≡ name_ok 0 (g 0))
-    (k : (kind.good ≡ name_ok 1 (g 1)) × (kind.number ≡ number_given (g 1)))
-    (s : (sys.good ≡ name_ok 2 (g 2)) × (sys.number ≡ number_given (g 2)))
-    (f : (fields.good ≡ name_ok 3 (g 3)) × (fields.number ≡ number_given (g 3)))
-    (d : (code.good ≡ name_ok 6 (g 6)) × (code.number ≡ number_given (g 6))) where
-  pub heading_is : (type system seven u v exact : Bool) (n c y : ℕ)
-      → type ≡ is_exactly 1 kind.number → system ≡ is_system sys.number
-      → seven ≡ all_of (id.good ∷ kind.good ∷ sys.good ∷ fields.good ∷ code.good ∷ type ∷ system ∷ [])
-      → u ≡ is_unsigned fields.number → v ≡ is_unsigned code.number → exact ≡ (u && v)
-      → n ≡ unsigned fields.number → c ≡ unsigned code.number → y ≡ system_of sys.number
-      → record { good = seven; exact = exact; n = n; delimiter = c; system = y } ≡ heading_of g
-  unfolding heading_of
-  heading_is type system seven u v exact n c y et es e7 eu ev ex en ec ey =
-      rw (e7, ex, en, ec, ey, et, es, eu, ev, i, k.0, k.1, s.0, s.1, f.0, f.1, d.0, d.1)
+-- a name by what is read of it
+module _ (k : ℕ) (g : List Assignment) where
+  single_none : single_of k g ≡ None → name_ok k g ≡ false
+  unfolding single_of
+  single_none e = by_test (name_ok k g) (λ t. absurd (some_not (rw t at e))) (λ f. f)
+    where
+      some_not : Some (number_given g) ≡ None → ⊥
+      some_not h = absurd cc
+
+  single_some : (n : Number) → single_of k g ≡ Some n → (name_ok k g ≡ true) × (n ≡ number_given g)
+  unfolding single_of
+  single_some n e = by_test (name_ok k g) (λ t. (t, same (rw t at e))) (λ f. absurd (none_not (rw f at e)))
+    where
+      same : Some (number_given g) ≡ Some n → n ≡ number_given g
+      same i = cc
+
+      none_not : (◌≡◌ {A = Option Number} None (Some n)) → ⊥
+      none_not i = absurd cc
+
+-- the heading from its parts: a name that is not given as it may be
+module _ (g : ℕ → List Assignment) where
+  heading_bad : (HeadingFacts g → ⊥) → None ≡ heading_read g
+  unfolding heading_read
+  heading_bad h = by_test (heading_good g) (λ t. absurd (h (heading_facts g t))) (λ f. rw f)
+
+  module _ (o : Option Number) (none : o ≡ None) where
+    pub bad_id : o ≡ single_of 0 (g 0) → None ≡ heading_read g
+    bad_id e = heading_bad (λ f. not_both f.n0 (single_none 0 (g 0) (sym e ∙ none)))
+
+    pub bad_type : o ≡ single_of 1 (g 1) → None ≡ heading_read g
+    bad_type e = heading_bad (λ f. not_both f.n1 (single_none 1 (g 1) (sym e ∙ none)))
+
+    pub bad_system : o ≡ single_of 2 (g 2) → None ≡ heading_read g
+    bad_system e = heading_bad (λ f. not_both f.n2 (single_none 2 (g 2) (sym e ∙ none)))
+
+    pub bad_fields : o ≡ single_of 3 (g 3) → None ≡ heading_read g
+    bad_fields e = heading_bad (λ f. not_both f.n3 (single_none 3 (g 3) (sym e ∙ none)))
+
+    pub bad_delimiter : o ≡ single_of 6 (g 6) → None ≡ heading_read g
+    bad_delimiter e = heading_bad (λ f. not_both f.n6 (single_none 6 (g 6) (sym e ∙ none)))
+
+  -- all are; t: the type and the system are known
+  module _ (id kind sys n d : Number) (e0 : single_of 0 (g 0) ≡ Some id) (e1 : single_of 1 (g 1) ≡ Some kind) (e2 : single_of 2 (g 2) ≡ Some sys) (e3 : single_of 3 (g 3) ≡ Some n) (e6 : single_of 6 (g 6) ≡ Some d)
+      (t : Bool) (et : t ≡ (is_exactly 1 kind && is_system sys)) where
+    good_told : heading_good g ≡ t
+    unfolding heading_good all_of
+    good_told =
+        rw (
+          (single_some 0 (g 0) id e0).0,
+          (single_some 1 (g 1) kind e1).0,
+          (single_some 2 (g 2) sys e2).0,
+          (single_some 3 (g 3) n e3).0,
+          (single_some 6 (g 6) d e6).0,
+          et,
+          (single_some 1 (g 1) kind e1).1,
+          (single_some 2 (g 2) sys e2).1,
+          and-true (is_system (number_given (g 2))),
+        )
+
+    pub heading_none : t ≡ false → None ≡ heading_read g
+    unfolding heading_read
+    heading_none f = rw (good_told, f)
+
+    pub heading_some : (u v : Bool) (a b y : ℕ) → t ≡ true → u ≡ is_unsigned n → v ≡ is_unsigned d → a ≡ unsigned n → b ≡ unsigned d → y ≡ system_of sys
+        → Some (record { exact = u && v; n = a; delimiter = b; system = y }) ≡ heading_read g
+    unfolding heading_read heading_of
+    heading_some u v a b y h eu ev ea eb ey =
+        rw (good_told, h, eu, ev, ea, eb, ey, (single_some 2 (g 2) sys e2).1, (single_some 3 (g 3) n e3).1, (single_some 6 (g 6) d e6).1)

@@ -8,12 +8,14 @@ use lib.ListN.{length}
 use native.Mathlib.Omega.{arith}
 use borrow.Author.Tests.{eqb-true}
 use Rattle.base.specs.Scans.{all_of, among}
-use Rattle.base.proofs.Tests.{not_both, and_both, all_of_head, all_of_tail}
+use Rattle.std.specs.Prelude.{Option, Some, None}
+use Rattle.kernel_heading.specs.declared.Heading.{Heading}
+use Rattle.base.proofs.Tests.{by_test, not_both, and_both, all_of_head, all_of_tail}
 use Rattle.kernel_rules.specs.Assignments.{values_of}
 use Rattle.kernel_rules.specs.Names.{Assignment}
 use Rattle.kernel_rules.specs.Tables.{every, is_list, name_ok, values_given, whole, is_exactly, type_ok, system_ok, is_unsigned, unsigned, are_whole, first_or}
 use Rattle.kernel_values.specs.Reads.{first_number}
-use Rattle.kernel_heading.specs.Names.{number_given, is_system, heading_of}
+use Rattle.kernel_heading.specs.Names.{number_given, is_system, heading_good, heading_of, heading_read}
 
 -- a name with one value, where it is given
 pub record OneValue (g : List Assignment) : Type 0 where
@@ -74,8 +76,8 @@ pub record HeadingFacts (g : ℕ → List Assignment) : Type 0 where
   pub type : is_exactly 1 (number_given (g 1)) ≡ true
   pub system_is : is_system (number_given (g 2)) ≡ true
 
-pub heading_facts : (g : ℕ → List Assignment) → (heading_of g).good ≡ true → HeadingFacts g
-unfolding heading_of
+pub heading_facts : (g : ℕ → List Assignment) → heading_good g ≡ true → HeadingFacts g
+unfolding heading_good
 heading_facts g h =
     let h1 = all_of_tail _ _ h in
     let h2 = all_of_tail _ _ h1 in
@@ -93,7 +95,25 @@ heading_facts g h =
       system_is = all_of_head _ _ h6;
     }
 
-pub facts_heading : (g : ℕ → List Assignment) → HeadingFacts g → (heading_of g).good ≡ true
-unfolding heading_of all_of
+pub facts_heading : (g : ℕ → List Assignment) → HeadingFacts g → heading_good g ≡ true
+unfolding heading_good all_of
 facts_heading g f =
     and_both f.n0 (and_both f.n1 (and_both f.n2 (and_both f.n3 (and_both f.n6 (and_both f.type (and_both f.system_is refl))))))
+
+-- what is read of a heading tells it
+pub read_none : (g : ℕ → List Assignment) → heading_read g ≡ None → heading_good g ≡ false
+unfolding heading_read
+read_none g e = by_test (heading_good g) (λ t. absurd (some_not (rw t at e))) (λ f. f)
+  where
+    some_not : Some (heading_of g) ≡ None → ⊥
+    some_not h = absurd cc
+
+pub read_some : (g : ℕ → List Assignment) (h : Heading) → heading_read g ≡ Some h → (heading_good g ≡ true) × (h ≡ heading_of g)
+unfolding heading_read
+read_some g h e = by_test (heading_good g) (λ t. (t, same (rw t at e))) (λ f. absurd (none_not (rw f at e)))
+  where
+    same : Some (heading_of g) ≡ Some h → h ≡ heading_of g
+    same i = cc
+
+    none_not : (◌≡◌ {A = Option Heading} None (Some h)) → ⊥
+    none_not i = absurd cc

@@ -1,5 +1,5 @@
 -- What the places of the names with one value give: the heading.
-use Rattle.std.specs.Prelude.{ℕ, Bool, ◌&&◌, ◌||◌, cond, List, [], ◌∷◌}
+use Rattle.std.specs.Prelude.{ℕ, Bool, ◌&&◌, ◌||◌, cond, List, [], ◌∷◌, Option, Some, None}
 use Rattle.base.specs.Scans.{all_of}
 use Rattle.kernel_rules.specs.declared.Number.{Number}
 use Rattle.kernel_rules.specs.declared.Number.TheVariants.{Plus}
@@ -20,22 +20,31 @@ is_system n = is_exactly 1 n || is_exactly 2 n
 unfoldable pub system_of : Number → ℕ
 system_of n = cond (is_exactly 2 n) 2 1
 
--- the heading, by what each name is given
+-- its number where it is given as it may be
+unfoldable pub single_of : ℕ → List Assignment → Option Number
+single_of k g = cond (name_ok k g) (Some (number_given g)) None
+
+-- the heading, by what each name is given, where all are given as they may be
+unfoldable pub heading_good : (ℕ → List Assignment) → Bool
+heading_good g =
+    all_of
+    (name_ok 0 (g 0)
+    ∷ name_ok 1 (g 1)
+    ∷ name_ok 2 (g 2)
+    ∷ name_ok 3 (g 3)
+    ∷ name_ok 6 (g 6)
+    ∷ is_exactly 1 (number_given (g 1))
+    ∷ is_system (number_given (g 2))
+    ∷ [])
+
 unfoldable pub heading_of : (ℕ → List Assignment) → Heading
 heading_of g =
     record {
-      good =
-          all_of
-          (name_ok 0 (g 0)
-          ∷ name_ok 1 (g 1)
-          ∷ name_ok 2 (g 2)
-          ∷ name_ok 3 (g 3)
-          ∷ name_ok 6 (g 6)
-          ∷ is_exactly 1 (number_given (g 1))
-          ∷ is_system (number_given (g 2))
-          ∷ []);
       exact = is_unsigned (number_given (g 3)) && is_unsigned (number_given (g 6));
       n = unsigned (number_given (g 3));
       delimiter = unsigned (number_given (g 6));
       system = system_of (number_given (g 2));
     }
+
+unfoldable pub heading_read : (ℕ → List Assignment) → Option Heading
+heading_read g = cond (heading_good g) (Some (heading_of g)) None

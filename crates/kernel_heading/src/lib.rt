@@ -1,160 +1,109 @@
 // The names with one value: whether each is given as it may be, and their numbers.
 #![tactic(auto)]
 
-ghost use Rattle.std.specs.Prelude.{◌≡◌, false, ◌||◌, [], ◌∷◌, ◌<◌, eqb, length, get_or};
+ghost use Rattle.std.specs.Prelude.{◌≡◌, false, ◌&&◌, ◌||◌, cond, [], ◌∷◌, ◌<◌, eqb, length, get_or, Some, None};
 ghost use Rattle.base.specs.Scans.{all_of};
-ghost use Rattle.kernel_rules.specs.Tables.{is_list, name_ok, is_exactly};
+ghost use Rattle.kernel_rules.specs.Tables.{is_list, is_exactly};
 ghost use Rattle.kernel_values.specs.Reads.{is_formed};
 ghost use Rattle.kernel_find.specs.Slots.{slot_at, Placed};
-ghost use Rattle.kernel_heading.specs.Names.{number_given, is_system, system_of, heading_of};
+ghost use Rattle.kernel_heading.specs.Names.{is_system, system_of, single_of, heading_read};
 
 use kernel_rules::Number;
-use kernel_values::{One, both, is_formed, is_unsigned, read_one, unsigned_of};
+use kernel_values::{One, is_formed, is_unsigned, read_one, unsigned_of};
 
-// All are given as they may be, n and the delimiter are exact, and the three numbers.
+// n and the delimiter, whether both are exact, and the time system.
 #[derive(Clone, Copy)]
 pub struct Heading {
-    pub good: bool,
     pub exact: bool,
     pub n: u64,
     pub delimiter: u64,
     pub system: u8,
 }
 
-#[derive(Clone, Copy)]
-pub struct Single {
-    pub good: bool,
-    pub number: Number,
-}
-
-pub fn read_heading(text: &[u8], slots: [usize; 11]) -> Heading
+// None where one of the names is not given as it may be.
+pub fn read_heading(text: &[u8], slots: [usize; 11]) -> Option<Heading>
     requires { Placed (length text.now) slots }
-    ensures { result ≡ heading_of (λ k. slot_at text.now (get_or slots k 0)) }
+    ensures { result ≡ heading_read (λ k. slot_at text.now (get_or slots k 0)) }
 {
-    let id = read_single(text, slots[0], 0);
-    let kind = read_single(text, slots[1], 1);
-    let system = read_single(text, slots[2], 2);
-    let fields = read_single(text, slots[3], 3);
-    let delimiter = read_single(text, slots[6], 6);
-    let type_number = kind.number;
-    let system_number = system.number;
-    let n = fields.number;
-    let code = delimiter.number;
-    Heading {
-        good: all_seven(
-            id.good,
-            kind.good,
-            system.good,
-            fields.good,
-            delimiter.good,
-            is_exactly(1, type_number),
-            is_system(system_number),
-        ),
-        exact: both(is_unsigned(n), is_unsigned(code)),
-        n: unsigned_of(n),
-        delimiter: unsigned_of(code),
-        system: system_of(system_number),
+    let _id = read_single(text, slots[0], 0)?;
+    let kind = read_single(text, slots[1], 1)?;
+    let system = read_single(text, slots[2], 2)?;
+    let n = read_single(text, slots[3], 3)?;
+    let delimiter = read_single(text, slots[6], 6)?;
+    if is_typed(kind, system) {
+        Some(Heading {
+            exact: is_unsigned(n) & is_unsigned(delimiter),
+            n: unsigned_of(n),
+            delimiter: unsigned_of(delimiter),
+            system: system_of(system),
+        })
+    } else {
+        None
     }
 }
 
-// The name k at the place `at`; 0 where the text does not give it.
-fn read_single(text: &[u8], at: usize, k: usize) -> Single
+// The number of the name k at the place `at`, which is 0 where the text does not give it.
+fn read_single(text: &[u8], at: usize, k: usize) -> Option<Number>
     requires at_in_bounds { at < length text.now }
     requires k_value { is_list k ≡ false }
-    ensures good_value { result.good ≡ name_ok k (slot_at text.now at) }
-    ensures number_value { result.number ≡ number_given (slot_at text.now at) }
+    ensures { result ≡ single_of k (slot_at text.now at) }
 {
     if at == 0 {
-        return absent(k);
+        absent(k)
+    } else {
+        judged(read_one(text, at), k)
     }
-    judged(read_one(text, at), k)
 }
 
 // Only the time system may be absent; it is 1 then.
-fn absent(k: usize) -> Single
-    ensures { result ≡ record { good = eqb k 2; number = Number.Plus 1 } }
+fn absent(k: usize) -> Option<Number>
+    ensures { result ≡ cond (eqb k 2) (Some (Number.Plus 1)) None }
 {
-    Single {
-        good: k == 2,
-        number: Number::Plus(1),
-    }
+    if k == 2 { Some(Number::Plus(1)) } else { None }
 }
 
-fn judged(one: One, k: usize) -> Single
-    ensures { result ≡ record { good = all_of (one.plain ∷ one.single ∷ (eqb k 0 || is_formed one.number) ∷ []); number = one.number } }
+fn judged(one: One, k: usize) -> Option<Number>
+    ensures { result ≡ cond (all_of (one.plain ∷ one.single ∷ (eqb k 0 || is_formed one.number) ∷ [])) (Some one.number) None }
 {
-    let number = one.number;
-    Single {
-        good: is_given(one.plain, one.single, number, k),
-        number,
+    if is_given(one.plain, one.single, one.number, k) {
+        Some(one.number)
+    } else {
+        None
     }
 }
 
 // With `=`, one value, and that a number, but for the ID.
+#[tactic(auto, unfolding(base::specs::Scans::all_of))]
 fn is_given(plain: bool, single: bool, number: Number, k: usize) -> bool
     ensures { result ≡ all_of (plain ∷ single ∷ (eqb k 0 || is_formed number) ∷ []) }
 {
-    if !plain {
-        return false;
-    }
-    if !single {
-        return false;
-    }
-    if k == 0 {
-        return true;
-    }
-    is_formed(number)
+    plain && single && (k == 0 || is_formed(number))
 }
 
+#[tactic(auto, unfolding(kernel_rules::specs::Tables::is_exactly))]
 fn is_exactly(k: u64, number: Number) -> bool
     ensures { result ≡ is_exactly k number }
 {
-    match number {
-        Number::Malformed => false,
-        Number::Inexact => false,
-        Number::Plus(v) => v == k,
-        Number::Minus(_) => false,
-    }
+    number == Number::Plus(k)
 }
 
+// The type is 1, and the system 1 or 2.
+fn is_typed(kind: Number, system: Number) -> bool
+    ensures { result ≡ (is_exactly 1 kind && is_system system) }
+{
+    is_exactly(1, kind) && is_system(system)
+}
+
+#[tactic(auto, unfolding(crate::specs::Names::is_system))]
 fn is_system(number: Number) -> bool
     ensures { result ≡ is_system number }
 {
-    if is_exactly(1, number) {
-        return true;
-    }
-    is_exactly(2, number)
+    is_exactly(1, number) || is_exactly(2, number)
 }
 
+#[tactic(auto, unfolding(crate::specs::Names::system_of))]
 fn system_of(number: Number) -> u8
     ensures { result ≡ system_of number }
 {
-    if is_exactly(2, number) {
-        return 2;
-    }
-    1
-}
-
-fn all_seven(a: bool, b: bool, c: bool, d: bool, e: bool, f: bool, g: bool) -> bool
-    ensures { result ≡ all_of (a ∷ b ∷ c ∷ d ∷ e ∷ f ∷ g ∷ []) }
-{
-    if !a {
-        return false;
-    }
-    if !b {
-        return false;
-    }
-    if !c {
-        return false;
-    }
-    if !d {
-        return false;
-    }
-    if !e {
-        return false;
-    }
-    if !f {
-        return false;
-    }
-    g
+    if is_exactly(2, number) { 2 } else { 1 }
 }

@@ -1,47 +1,26 @@
 -- What stands before the value of an assignment: the name and the operator, as the code finds them.
 use Prim.Native.Nat.{ℕ, ◌+◌, ◌-◌, ◌≤◌, ◌<◌, min}
 use mathlib.Core.Path.{◌≡◌, sym, ◌∙◌}
-use mathlib.Core.Bool.{Bool, true, false, not}
+use mathlib.Core.Bool.{Bool, true, false}
 use mathlib.Core.List.{List}
-use lib.Dec.{eqb, ltb}
-use lib.ListN.{length, drop, get_or, drop_of_length-le}
-use borrow.Author.Tests.{eq-eqb, ne_eqb, lt-ltb, ltb-true}
+use lib.Dec.{ltb}
+use lib.ListN.{length, drop, drop_of_length-le}
+use borrow.Author.Tests.{ltb-true}
 use native.Mathlib.Omega.{arith}
 use Rattle.base.proofs.Tests.{and_first}
 use Rattle.kernel_rules.specs.Lines.{is_gap, after_gap, trim_to}
-use Rattle.kernel_rules.specs.Assignments.{is_equals, equals_at, is_plus, name_end, name_in, value_at}
+use Rattle.kernel_rules.specs.Assignments.{equals_at, is_plus, name_end, name_in, value_at}
 use Rattle.kernel_heads.specs.declared.Part.{Part}
-use Rattle.kernel_heads.specs.Parts.{Stripped, Named}
-use Rattle.kernel_lines.proofs.Spans.{after_span, span_turn, span_stop, span_end}
+use Rattle.kernel_heads.specs.Parts.{before_equals, Stripped, Named}
+use Rattle.kernel_lines.specs.Kinds.{after_span}
 
 -- the first `=`
-abbrev pub before_equals : ℕ → Bool
-before_equals b = not (is_equals b)
-
-pub equals_start : (l : List ℕ) → equals_at l ≡ after_span before_equals l 0
+pub equals_found : (l : List ℕ) → after_span before_equals l 0 ≡ equals_at l
 unfolding equals_at
-equals_start l = omega arith
-
-module _ (l : List ℕ) (i : ℕ) (e : equals_at l ≡ after_span before_equals l i) where
-  pub equals_turn : i < length l → (get_or l i 0 ≡ 61 → ⊥) → equals_at l ≡ after_span before_equals l (i + 1)
-  equals_turn h f = span_turn before_equals l (equals_at l) i e h (rw (ne_eqb (get_or l i 0) 61 f))
-
-  pub equals_stop : i < length l → get_or l i 0 ≡ 61 → i ≡ equals_at l
-  equals_stop h t = span_stop before_equals l (equals_at l) i e h (rw (eq-eqb (get_or l i 0) 61 t))
-
-  pub equals_end : length l ≤ i → i ≡ equals_at l
-  equals_end h = span_end before_equals l (equals_at l) i e h
+equals_found l = omega arith
 
 -- a `+` before it
 module _ (l : List ℕ) (q : ℕ) (e : q ≡ equals_at l) where
-  pub plus_none : q ≡ 0 → false ≡ is_plus l
-  unfolding is_plus
-  plus_none z = rw (← e, z)
-
-  pub plus_byte : (q ≡ 0 → ⊥) → eqb (get_or l (q - 1) 0) 43 ≡ is_plus l
-  unfolding is_plus
-  plus_byte f = rw (← e, lt-ltb 0 q (omega arith))
-
   pub plus_some : (t : Bool) → t ≡ is_plus l → t ≡ true → 1 ≤ q
   unfolding is_plus
   plus_some t p y = rw e (ltb-true 0 (equals_at l) (and_first (ltb 0 (equals_at l)) _ (sym p ∙ y)))

@@ -1,4 +1,3 @@
--- Every serves loops that test each byte, NameBytes the tests of a name. Heads has the laws of the name and the operator.
-pub mod Every
+-- NameBytes has the tests of a name, Heads the laws of the name and the operator.
 pub mod NameBytes
 pub mod Heads

@@ -1,11 +1,12 @@
 // The head of an assignment's line: its name and its operator, and where its value begins.
 #![tactic(auto)]
 
-ghost use Rattle.std.specs.Prelude.{◌≡◌, ◌≤◌, min, length, drop};
+ghost use Rattle.std.specs.Prelude.{◌≡◌, ◌≤◌, ◌&&◌, leb, min, length, drop};
 ghost use Rattle.base.specs.Scans.{all};
-ghost use Rattle.kernel_rules.specs.Assignments.{equals_at, is_plus, value_at, in_name, is_name};
-ghost use Rattle.kernel_heads.specs.Parts.{Stripped, Named};
+ghost use Rattle.kernel_rules.specs.Assignments.{equals_at, is_plus, value_at, in_name, is_name, longest_name};
+ghost use Rattle.kernel_heads.specs.Parts.{before_equals, Stripped, Named};
 
+use kernel_lines::kinds::{ByteKind, after};
 use kernel_lines::line_bytes::{after_gap, is_gap, trim_gaps};
 
 const LONGEST_NAME: usize = 32;
@@ -17,30 +18,33 @@ pub struct Part {
     pub end: usize,
 }
 
+// Any byte but `=`.
+struct BeforeEquals;
+
+impl ByteKind for BeforeEquals {
+    ghost is_one = { before_equals };
+
+    fn is_one(b: u8) -> bool {
+        b != b'='
+    }
+}
+
 // The place of the first `=`, or the line's length.
+#[tactic(auto, using(crate::proofs::Heads::equals_found))]
 pub fn equals_at(l: &[u8]) -> usize
     ensures value { result ≡ equals_at l.now }
     ensures upper_bound { result ≤ length l.now }
 {
-    let mut i = 0;
-    while i < l.len() {
-        if l[i] == b'=' {
-            return i;
-        }
-        i += 1;
-    }
-    i
+    after::<BeforeEquals>(l, 0)
 }
 
 // Whether the operator is `+=`.
+#[tactic(auto, unfolding(kernel_rules::specs::Assignments::is_plus))]
 pub fn is_plus(l: &[u8]) -> bool
     ensures { result ≡ is_plus l.now }
 {
     let equals = equals_at(l);
-    if equals == 0 {
-        return false;
-    }
-    l[equals - 1] == b'+'
+    0 < equals && l[equals - 1] == b'+'
 }
 
 // Where the value of an assignment begins; the line's length where there is no operator.
@@ -82,42 +86,26 @@ pub fn stripped(l: &[u8], n: usize) -> Part
 pub fn is_name(w: &[u8]) -> bool
     ensures { result ≡ is_name w.now }
 {
-    if w.len() == 0 {
+    if !has_name_length(w) {
         return false;
     }
-    if LONGEST_NAME < w.len() {
-        return false;
-    }
-    if w[w.len() - 1] == b'+' {
-        return false;
-    }
-    all_in_name(w)
+    w[w.len() - 1] != b'+' && all_in_name(w)
+}
+
+fn has_name_length(w: &[u8]) -> bool
+    ensures { result ≡ (leb 1 (length w.now) && leb (length w.now) longest_name) }
+{
+    1 <= w.len() && w.len() <= LONGEST_NAME
 }
 
 fn all_in_name(w: &[u8]) -> bool
     ensures { result ≡ all in_name w.now }
 {
-    let mut i = 0;
-    while i < w.len() {
-        if !in_name(w[i]) {
-            return false;
-        }
-        i += 1;
-    }
-    true
+    w.iter().all(|b| in_name(*b))
 }
 
 fn in_name(b: u8) -> bool
     ensures { result ≡ in_name b }
 {
-    if is_gap(b) {
-        return false;
-    }
-    if b == b',' {
-        return false;
-    }
-    if b == b'(' {
-        return false;
-    }
-    b != b')'
+    !(is_gap(b) || b == b',' || b == b'(' || b == b')')
 }

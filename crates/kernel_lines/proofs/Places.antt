@@ -1,7 +1,7 @@
 -- The lines of a text from a place on: the line at the place, and the lines from the next on.
 --     lines_here, lines_none      what stands at a place, as a loop over lines meets it
 --     end_above, end_within, next_above, next_within      the bounds of a line in the text
-use Prim.Native.Nat.{ℕ, ◌+◌, ◌-◌, ◌≤◌, ◌<◌}
+use Prim.Native.Nat.{ℕ, ◌+◌, ◌-◌, ◌≤◌, ◌<◌, min}
 use mathlib.Core.Path.{◌≡◌, refl, sym, ap, ◌∙◌}
 use mathlib.Core.Bool.{false, ◌||◌}
 use mathlib.Core.List.{List, [], ◌∷◌, map}
@@ -74,16 +74,18 @@ module _ (s : List ℕ) (at : ℕ) where
         minus : stop - at ≡ length (line_in (drop at s))
         minus = omega arith
 
-    pub line_ended : stop < length s → record { start = at; end = at + k; next = stop + 1 } ≡ line_at s at
+    pub line_is : record { start = at; end = at + k; next = min (length s) (stop + 1) } ≡ line_at s at
     unfolding line_at
-    line_ended h = rw (taken_ended (drop at s) (omega (arith, length-drop at s)), ← kept_here, next)
+    line_is = rw (← kept_here, next)
       where
-        next : stop + 1 ≡ at + (length (line_in (drop at s)) + 1)
-        next = omega arith
+        ended : length (line_in (drop at s)) < length (drop at s) → min (length s) (stop + 1) ≡ at + taken_in (drop at s)
+        ended h = omega (arith, taken_ended (drop at s) h, length-drop at s)
 
-    pub line_last : length s ≤ stop → record { start = at; end = at + k; next = stop } ≡ line_at s at
-    unfolding line_at
-    line_last h = rw (taken_last (drop at s) (omega (arith, length-drop at s)), ← kept_here, e)
+        last : length (drop at s) ≤ length (line_in (drop at s)) → min (length s) (stop + 1) ≡ at + taken_in (drop at s)
+        last h = omega (arith, taken_last (drop at s) h, length-drop at s, line_short (drop at s))
+
+        next : min (length s) (stop + 1) ≡ at + taken_in (drop at s)
+        next = by_test (ltb (length (line_in (drop at s))) (length (drop at s))) (λ t. ended (ltb-true _ _ t)) (λ f. last (ltb-false _ _ f))
 
 module _ (s : List ℕ) (at : ℕ) (r : Line) (e : r ≡ line_at s at) (h : at < length s) where
   pub end_above : at ≤ r.end

@@ -1,14 +1,14 @@
 -- What is dropped at the end of a line, as the code meets it.
 use Prim.Native.Nat.{ℕ, zero, suc, ◌-◌, ◌≤◌, ◌<◌}
 use mathlib.Core.Path.{◌≡◌, sym, ap, ◌∙◌}
-use mathlib.Core.Bool.{Bool, true, false, not, cond}
+use mathlib.Core.Bool.{Bool, true, false, cond}
 use mathlib.Core.List.{List}
 use lib.ListN.{length, get_or}
-use borrow.Author.Tests.{eq-eqb, ne_eqb, not-true, not-false}
+use borrow.Author.Tests.{eq-eqb, ne_eqb}
 use native.Mathlib.Omega.{arith}
 use Rattle.base.proofs.Tests.{by_test}
 use Rattle.rules.specs.Text.{is_blank}
-use Rattle.kernel_rules.specs.Lines.{is_gap, is_return, trim_to, trim_one, kept_of}
+use Rattle.kernel_rules.specs.Lines.{is_return, trim_to, trim_one, kept_of}
 
 last_of : (i : ℕ) → 0 < i → i ≡ suc (i - 1)
 last_of i h = omega arith
@@ -46,43 +46,21 @@ module _ (p : ℕ → Bool) (l : List ℕ) where
     pub trim_stop : 0 < i → p (get_or l (i - 1) 0) ≡ false → i ≡ R
     trim_stop h f = sym (e ∙ trim_one_lem i h ∙ rw f)
 
-    pub trim_none : i ≤ 0 → 0 ≡ R
+    pub trim_none : i ≤ 0 → i ≡ R
     unfolding trim_to
-    trim_none h = let z : i ≡ 0 = omega arith in sym (e ∙ rw z)
-
--- blanks
-module _ (l : List ℕ) (R i : ℕ) (e : R ≡ trim_to is_blank l i) where
-  pub blank_turn : 0 < i → get_or l (i - 1) 0 ≡ 32 → R ≡ trim_to is_blank l (i - 1)
-  blank_turn h b = trim_turn is_blank l R i e h (eq-eqb _ _ b)
-
-  pub blank_stop : 0 < i → (get_or l (i - 1) 0 ≡ 32 → ⊥) → i ≡ R
-  blank_stop h b = trim_stop is_blank l R i e h (ne_eqb _ _ b)
-
-  pub blank_none : i ≤ 0 → 0 ≡ R
-  blank_none h = trim_none is_blank l R i e h
-
--- blanks and tabs
-module _ (l : List ℕ) (R i : ℕ) (e : R ≡ trim_to is_gap l i) where
-  pub end_turn : (g : Bool) → 0 < i → g ≡ is_gap (get_or l (i - 1) 0) → not g ≡ false → R ≡ trim_to is_gap l (i - 1)
-  end_turn g h t f = trim_turn is_gap l R i e h (sym t ∙ not-false g f)
-
-  pub end_stop : (g : Bool) → 0 < i → g ≡ is_gap (get_or l (i - 1) 0) → not g ≡ true → i ≡ R
-  end_stop g h t f = trim_stop is_gap l R i e h (sym t ∙ not-true g f)
-
-  pub end_none : i ≤ 0 → 0 ≡ R
-  end_none h = trim_none is_gap l R i e h
+    trim_none h = let z : i ≡ 0 = omega arith in z ∙ sym (e ∙ rw z)
 
 -- at most one 13
 module _ (l : List ℕ) (n : ℕ) where
-  pub return_none : n ≡ 0 → 0 ≡ trim_one is_return l n
+  pub return_none : n ≤ 0 → n ≡ trim_one is_return l n
   unfolding trim_one
-  return_none e = rw e
+  return_none h = let z : n ≡ 0 = omega arith in rw z
 
-  pub return_here : (n ≡ 0 → ⊥) → get_or l (n - 1) 0 ≡ 13 → n - 1 ≡ trim_one is_return l n
-  return_here h b = sym (drop_one is_return l n (omega arith) ∙ rw (eq-eqb _ _ b))
+  pub return_here : 0 < n → get_or l (n - 1) 0 ≡ 13 → n - 1 ≡ trim_one is_return l n
+  return_here h b = sym (drop_one is_return l n h ∙ rw (eq-eqb _ _ b))
 
-  pub return_other : (n ≡ 0 → ⊥) → (get_or l (n - 1) 0 ≡ 13 → ⊥) → n ≡ trim_one is_return l n
-  return_other h b = sym (drop_one is_return l n (omega arith) ∙ rw (ne_eqb _ _ b))
+  pub return_other : 0 < n → (get_or l (n - 1) 0 ≡ 13 → ⊥) → n ≡ trim_one is_return l n
+  return_other h b = sym (drop_one is_return l n h ∙ rw (ne_eqb _ _ b))
 
 pub kept_is : (l : List ℕ) (i j r : ℕ) → i ≡ trim_to is_blank l (length l) → j ≡ trim_one is_return l i → r ≡ trim_to is_blank l j → r ≡ kept_of l
 unfolding kept_of

@@ -2,13 +2,13 @@
 #![tactic(auto)]
 
 ghost use Rattle.std.specs.Prelude.{◌≡◌, ◌≤◌, ◌<◌, length};
-ghost use Rattle.rules.specs.Text.{is_blank};
-ghost use Rattle.kernel_rules.specs.Lines.{is_return, trim_to, trim_one, kept_of};
+ghost use Rattle.kernel_rules.specs.Lines.{is_return, trim_one, kept_of};
 ghost use Rattle.kernel_lines.specs.Places.{line_at};
 
-pub mod line_bytes;
+use crate::kinds::{Blank, trim};
 
-const BLANK: u8 = 32;
+pub mod kinds;
+pub mod line_bytes;
 
 const RETURN: u8 = 13;
 
@@ -65,18 +65,10 @@ fn line_at(text: &[u8], at: usize) -> Line
         };
     }
     let stop = lines::line_end(text, at);
-    let end = at + kept(&text[at..stop]);
-    if stop < text.len() {
-        return Line {
-            start: at,
-            end,
-            next: stop + 1,
-        };
-    }
     Line {
         start: at,
-        end,
-        next: stop,
+        end: at + kept(&text[at..stop]),
+        next: text.len().min(stop + 1),
     }
 }
 
@@ -85,24 +77,9 @@ fn kept(l: &[u8]) -> usize
     ensures value { result ≡ kept_of l.now }
     ensures upper_bound { result ≤ length l.now }
 {
-    let i = trim_blanks(l, l.len());
+    let i = trim::<Blank>(l, l.len());
     let j = trim_return(l, i);
-    trim_blanks(l, j)
-}
-
-fn trim_blanks(l: &[u8], n: usize) -> usize
-    requires { n ≤ length l.now }
-    ensures value { result ≡ trim_to is_blank l.now n }
-    ensures upper_bound { result ≤ n }
-{
-    let mut i = n;
-    while 0 < i {
-        if l[i - 1] != BLANK {
-            return i;
-        }
-        i -= 1;
-    }
-    0
+    trim::<Blank>(l, j)
 }
 
 fn trim_return(l: &[u8], n: usize) -> usize
@@ -110,11 +87,9 @@ fn trim_return(l: &[u8], n: usize) -> usize
     ensures value { result ≡ trim_one is_return l.now n }
     ensures upper_bound { result ≤ n }
 {
-    if n == 0 {
-        return 0;
+    if 0 < n && l[n - 1] == RETURN {
+        n - 1
+    } else {
+        n
     }
-    if l[n - 1] == RETURN {
-        return n - 1;
-    }
-    n
 }

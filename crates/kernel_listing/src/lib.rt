@@ -9,7 +9,7 @@ ghost use Rattle.kernel_values.specs.Reads.{times_of, rates_of};
 ghost use Rattle.kernel_find.specs.Slots.{slot_at, Placed};
 ghost use Rattle.kernel_listing.specs.Listed.{listed_of, rows_of, Room, ListsKept};
 
-use kernel_values::{both, fill_list, fill_rows};
+use kernel_values::{fill_list, fill_rows};
 
 #[derive(Clone, Copy)]
 pub struct Listing {
@@ -90,7 +90,7 @@ fn read_list(text: &[u8], at: usize, out: &mut [u64]) -> Listed
     }
     let f = fill_list(text, at, out);
     Listed {
-        good: both(f.plain, f.numbers),
+        good: f.plain & f.numbers,
         exact: f.exact,
         count: f.count,
     }
@@ -123,7 +123,7 @@ fn read_rows(
     }
     let f = fill_rows(text, at, counts, times, rates);
     Rows {
-        good: both(f.plain, f.numbers),
+        good: f.plain & f.numbers,
         exact: f.exact,
         counts: in_column(f.count, 2),
         times: in_column(f.count, 1),
@@ -139,20 +139,9 @@ fn in_column(count: usize, more: usize) -> usize
     count / 3 + (count % 3 + more) / 3
 }
 
+#[tactic(auto, unfolding(base::specs::Scans::all_of))]
 fn all_five(a: bool, b: bool, c: bool, d: bool, e: bool) -> bool
     ensures { result ≡ all_of (a ∷ b ∷ c ∷ d ∷ e ∷ []) }
 {
-    if !a {
-        return false;
-    }
-    if !b {
-        return false;
-    }
-    if !c {
-        return false;
-    }
-    if !d {
-        return false;
-    }
-    e
+    a && b && c && d && e
 }

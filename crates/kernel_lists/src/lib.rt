@@ -1,7 +1,7 @@
 // The lists of a kernel go to the lists that were lent: all of them, or none.
 #![tactic(auto)]
 
-ghost use Rattle.std.specs.Prelude.{◌≡◌, ◌∷◌, [], true, ◌≤◌, ◌<◌, leb, length, get_or, pos};
+ghost use Rattle.std.specs.Prelude.{◌≡◌, ◌∷◌, [], true, ◌≤◌, leb, length};
 ghost use Rattle.base.specs.Scans.{all_of};
 ghost use Rattle.kernel_rules.specs.Tables.{lists_of};
 ghost use Rattle.kernel_rules.specs.Kernel.{front, fits};
@@ -50,12 +50,13 @@ pub fn hand_out(
     copy(tostarts, starts);
     copy(toends, ends);
     copy(tocounts, counts);
-    copy_times(totimes, times);
+    copy(totimes, times);
     copy(torates, rates);
     true
 }
 
 // Whether each of seven lists has room: n0 numbers go to a list of m0, and so on.
+#[tactic(auto, unfolding(base::specs::Scans::all_of))]
 fn all_fit(
     n0: usize,
     m0: usize,
@@ -75,53 +76,13 @@ fn all_fit(
     ensures value { result ≡ all_of (leb n0 m0 ∷ leb n1 m1 ∷ leb n2 m2 ∷ leb n3 m3 ∷ leb n4 m4 ∷ leb n5 m5 ∷ leb n6 m6 ∷ []) }
     ensures rooms { result ≡ true → Rooms n0 m0 n1 m1 n2 m2 n3 m3 n4 m4 n5 m5 n6 m6 }
 {
-    if m0 < n0 {
-        return false;
-    }
-    if m1 < n1 {
-        return false;
-    }
-    if m2 < n2 {
-        return false;
-    }
-    if m3 < n3 {
-        return false;
-    }
-    if m4 < n4 {
-        return false;
-    }
-    if m5 < n5 {
-        return false;
-    }
-    n6 <= m6
+    n0 <= m0 && n1 <= m1 && n2 <= m2 && n3 <= m3 && n4 <= m4 && n5 <= m5 && n6 <= m6
 }
 
-fn copy(out: &mut [u64], part: &[u64])
+#[tactic(auto, unfolding(kernel_rules::specs::Kernel::front))]
+fn copy<T: Copy>(out: &mut [T], part: &[T])
     requires { length part.now ≤ length out.old }
     ensures { out.new ≡ front part.now out.old }
 {
-    let mut i = 0;
-    while i < part.len() {
-        out[i] = part[i];
-        i += 1;
-    }
-}
-
-fn copy_times(out: &mut [i64], part: &[i64])
-    requires { length part.now ≤ length out.old }
-    ensures { out.new ≡ front part.now out.old }
-{
-    let mut i = 0;
-    while i < part.len() {
-        let t = time_at(part, i);
-        out[i] = t;
-        i += 1;
-    }
-}
-
-fn time_at(part: &[i64], i: usize) -> i64
-    requires { i < length part.now }
-    ensures { result ≡ get_or part.now i (pos 0) }
-{
-    part[i]
+    out[..part.len()].copy_from_slice(part);
 }

@@ -14,17 +14,15 @@ use kernel_rules::Stage;
 const NAMES: usize = 10;
 
 // The number of the name that a line assigns: only in data, outside lists.
+#[tactic(auto, unfolding(kernel_rules::specs::Names::assigns))]
 pub fn assigns(digits: &[u8], p: Stage, l: &[u8]) -> usize
     ensures value { result ≡ assigns digits.now p l.now }
     ensures upper_bound { result ≤ names }
 {
     match p {
-        Stage::Comment => NAMES,
         Stage::Data => assigned_name(digits, l),
-        Stage::Opened => NAMES,
-        Stage::Numbers => NAMES,
-        Stage::Strings => NAMES,
-        Stage::Forbidden => NAMES,
+        Stage::Comment | Stage::Opened | Stage::Numbers | Stage::Strings | Stage::Forbidden =>
+            NAMES,
     }
 }
 
@@ -45,58 +43,39 @@ fn assigned_name(digits: &[u8], l: &[u8]) -> usize
     ensures upper_bound { result ≤ names }
 {
     let name = name_in(l);
-    let start = name.start;
-    let end = name.end;
-    which(digits, &l[start..end])
+    which(digits, &l[name.start..name.end])
 }
 
 fn which(digits: &[u8], w: &[u8]) -> usize
     ensures value { result ≡ which digits.now w.now }
     ensures upper_bound { result ≤ names }
 {
-    let mut k = 0;
-    while k < NAMES {
+    for k in 0..NAMES {
         if is_named(digits, k, w) {
             return k;
         }
-        k += 1;
     }
     NAMES
 }
 
 // Whether w is the name k.
+#[tactic(auto, using(crate::proofs::NameParts::last_number), unfolding(kernel_rules::specs::Names::name_list, rules::specs::Examples::bytes))]
 fn is_named(digits: &[u8], k: usize, w: &[u8]) -> bool
     requires { k < names }
     ensures { result ≡ same w.now (get_or (name_list digits.now) k []) }
 {
-    if k == 0 {
-        return same(w, b"SCLK_KERNEL_ID");
+    match k {
+        0 => same(w, b"SCLK_KERNEL_ID"),
+        1 => is_joined(w, b"SCLK_DATA_TYPE_", digits),
+        2 => is_joined(w, b"SCLK01_TIME_SYSTEM_", digits),
+        3 => is_joined(w, b"SCLK01_N_FIELDS_", digits),
+        4 => is_joined(w, b"SCLK01_MODULI_", digits),
+        5 => is_joined(w, b"SCLK01_OFFSETS_", digits),
+        6 => is_joined(w, b"SCLK01_OUTPUT_DELIM_", digits),
+        7 => is_joined(w, b"SCLK01_COEFFICIENTS_", digits),
+        8 => is_joined(w, b"SCLK_PARTITION_START_", digits),
+        _ => is_joined(w, b"SCLK_PARTITION_END_", digits),
     }
-    if k == 1 {
-        return is_joined(w, b"SCLK_DATA_TYPE_", digits);
-    }
-    if k == 2 {
-        return is_joined(w, b"SCLK01_TIME_SYSTEM_", digits);
-    }
-    if k == 3 {
-        return is_joined(w, b"SCLK01_N_FIELDS_", digits);
-    }
-    if k == 4 {
-        return is_joined(w, b"SCLK01_MODULI_", digits);
-    }
-    if k == 5 {
-        return is_joined(w, b"SCLK01_OFFSETS_", digits);
-    }
-    if k == 6 {
-        return is_joined(w, b"SCLK01_OUTPUT_DELIM_", digits);
-    }
-    if k == 7 {
-        return is_joined(w, b"SCLK01_COEFFICIENTS_", digits);
-    }
-    if k == 8 {
-        return is_joined(w, b"SCLK_PARTITION_START_", digits);
-    }
-    is_joined(w, b"SCLK_PARTITION_END_", digits)
 }
 
 // Whether w is the bytes `a` and then the bytes `b`.

@@ -7,7 +7,6 @@ use native.Mathlib.Omega.{arith}
 use Rattle.kernel_rules.specs.declared.Number.{Number}
 use Rattle.kernel_rules.specs.declared.Number.TheVariants.{Inexact}
 use Rattle.kernel_rules.specs.Numbers.{with_sign, quotient}
-use Rattle.kernel_numbers.specs.Pass.{largest_tenth}
 use Rattle.kernel_numbers.proofs.Quotients.{Means, means_exact, means_none, means_factor, quotient_means, quotient_is, ten_pos, ten_le}
 
 module _ (m : Bool) (r : Number) where
@@ -28,18 +27,18 @@ module _ (m : Bool) (r : Number) where
   divided_done Q value zero h l e i = i ∙ quotient_is m value 1 (with_sign m value) (omega arith) (means_exact m value 1 value (l, sym (mul-one value))) ∙ sym e
   divided_done Q value (suc left) h l e i = absurd (omega arith)
 
-pub raised_turn : (N value left : ℕ) → 0 < left → N ≡ value * 10 ^ left → N ≡ value * 10 * 10 ^ (left - 1)
-raised_turn N value zero h e = absurd (omega arith)
-raised_turn N value (suc left) h e = e ∙ rw (pow-succ' 10 left, ← mul_assoc value 10 (10 ^ left), back)
+pub raised_turn : (N value left more : ℕ) → 0 < left → more ≡ value * 10 → N ≡ value * 10 ^ left → N ≡ more * 10 ^ (left - 1)
+raised_turn N value zero more h i e = absurd (omega arith)
+raised_turn N value (suc left) more h i e = e ∙ rw (i, pow-succ' 10 left, ← mul_assoc value 10 (10 ^ left), back)
   where
     back : suc left - 1 ≡ left
     back = omega arith
 
-pub raised_over : (m : Bool) (N value left : ℕ) → 0 < left → largest_tenth < value → N ≡ value * 10 ^ left → Inexact ≡ quotient m N 1
+pub raised_over : (m : Bool) (N value left : ℕ) → 0 < left → (value * 10 < 2 ^ 64 → ⊥) → N ≡ value * 10 ^ left → Inexact ≡ quotient m N 1
 raised_over m N value left h l e = quotient_is m N 1 Inexact (omega arith) (means_none m N 1 (λ q k. omega (arith, large, k.0, k.1)))
   where
     large : 2 ^ 64 ≤ value * 10 ^ left
-    large = omega (arith, mul-le-mul {n₁ = value} {m₁ = 10} {n₂ = value} {m₂ = 10 ^ left} (omega arith) (ten_le 1 left h))
+    large = omega (arith, l, mul-le-mul {n₁ = value} {m₁ = 10} {n₂ = value} {m₂ = 10 ^ left} (omega arith) (ten_le 1 left h))
 
 module _ (m : Bool) (Q : Number) where
   pub divided_turn : (value left : ℕ) → 0 < left → value % 10 ≡ 0 → Q ≡ quotient m value (10 ^ left) → Q ≡ quotient m (value / 10) (10 ^ (left - 1))

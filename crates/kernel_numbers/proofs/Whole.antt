@@ -12,6 +12,7 @@ use Rattle.kernel_rules.specs.declared.Number.{Number}
 use Rattle.kernel_rules.specs.declared.Number.TheVariants.{Malformed}
 use Rattle.kernel_rules.specs.Lines.{longest_line}
 use Rattle.kernel_rules.specs.Numbers.{is_sign, is_point, is_letter, is_minus, after_one, after_digits, sign_end, whole_end, point_end, decimals_end, letter_end, power_sign_end, power_end, has_form, is_number, followed, digits_of, power_of, is_power_minus, value_in, number_in}
+use Rattle.std.specs.Prelude.{Option, Some}
 use Rattle.kernel_numbers.specs.declared.Digits.{Digits}
 use Rattle.kernel_numbers.specs.Pass.{digits, digits_from, power_cap, power_sign_after, minus_after, value_of}
 use Rattle.kernel_numbers.proofs.Quotients.{Means, more_up, more_down}
@@ -31,12 +32,12 @@ module _ (m : Bool) (r : Number) (len n k p x : ℕ) (l : n < 10 ^ len) (short :
       past true i = more_down m n (k + 0) (p + x) (p + min x power_cap) len r l (omega arith) (omega arith)
       past false i = more_up m n (k + x) (k + min x power_cap) (p + 0) r (omega arith) (omega arith)
 
-pub capped_value : (K : Digits) (k : ℕ) (s : List ℕ) → Keeps (digits_of s) K → length s ≤ longest_line → k ≤ 12
+pub capped_value : (K : Option Digits) (k : ℕ) (s : List ℕ) → Keeps (digits_of s) K → length s ≤ longest_line → k ≤ 12
     → value_of (is_minus (get_or s 0 0)) K (k + cond (is_power_minus s) 0 (min (power_of s) power_cap)) ((decimals_end s - point_end s) + cond (is_power_minus s) (min (power_of s) power_cap) 0) ≡ value_in k s
 capped_value K k s keeps short few =
     value_is k s _
     (capped_means (is_minus (get_or s 0 0)) _ (length s) (digits_of s) k (decimals_end s - point_end s) (power_of s) (digits_below s) short few (omega (arith, decimals_to s)) (is_power_minus s)
-    (kept_means (is_minus (get_or s 0 0)) K.over (digits_of s) K.head K.zeros (k + cond (is_power_minus s) 0 (min (power_of s) power_cap)) ((decimals_end s - point_end s) + cond (is_power_minus s) (min (power_of s) power_cap) 0) keeps))
+    (kept_means (is_minus (get_or s 0 0)) K (digits_of s) (k + cond (is_power_minus s) 0 (min (power_of s) power_cap)) ((decimals_end s - point_end s) + cond (is_power_minus s) (min (power_of s) power_cap) 0) keeps))
 
 -- the places, as the code finds them one after another
 module _ (s : List ℕ) (a b c d e f g : ℕ)
@@ -86,10 +87,10 @@ module _ (s : List ℕ) (a b c d e f g : ℕ)
   unfolding number_in is_number
   number_bad k w short i n = rw (le-leb (length s) longest_line short, ← form_is w i, not-true w n)
 
-  module _ (whole both : Digits) (eb : whole ≡ digits_from (digits false 0 0) (drop a s)) (ed : both ≡ digits_from whole (drop c s)) where
+  module _ (whole both : Option Digits) (eb : whole ≡ digits_from (Some (digits 0 0)) (drop a s)) (ed : both ≡ digits_from whole (drop c s)) where
     kept : Keeps (digits_of s) both
     unfolding digits_of
-    kept = rw (ed, eb, is_a, is_c) (keeps_run (drop (point_end s) s) _ _ (keeps_run (drop (sign_end s) s) 0 (digits false 0 0) keeps_none))
+    kept = rw (ed, eb, is_a, is_c) (keeps_run (drop (point_end s) s) _ _ (keeps_run (drop (sign_end s) s) 0 (Some (digits 0 0)) keeps_none))
 
     pub number_good : (k : ℕ) (w down : Bool) (z x : ℕ) (r : Number) → length s ≤ longest_line → k ≤ 12
         → w ≡ (ltb 0 ((b - a) + (d - c)) && (eqb e d || ltb f g) && eqb g (length s)) → not w ≡ false
@@ -98,15 +99,7 @@ module _ (s : List ℕ) (a b c d e f g : ℕ)
     unfolding number_in is_number
     number_good k w down z x r short few i n ez em ex er = er ∙ rw (le-leb (length s) longest_line short, ← form_is w i, not-false w n, ez, em ∙ is_minus_lem, ex ∙ is_power, is_c, is_d) (capped_value both k s kept short few)
 
--- no longer than a line
-pub long_is : (s : List ℕ) → longest_line < length s → false ≡ is_number s
-unfolding is_number
-long_is s h = rw (lt-leb (length s) longest_line h)
-
-pub short_is : (s : List ℕ) (w : Bool) → length s ≤ longest_line → w ≡ has_form s → w ≡ is_number s
-unfolding is_number
-short_is s w h e = e ∙ rw (le-leb (length s) longest_line h)
-
+-- longer than a line
 pub long_number : (k : ℕ) (s : List ℕ) → longest_line < length s → Malformed ≡ number_in k s
-unfolding number_in
-long_number k s h = rw (← long_is s h)
+unfolding number_in is_number
+long_number k s h = rw (lt-leb (length s) longest_line h)

@@ -12,12 +12,11 @@ use native.Mathlib.Omega.{arith}
 use Rattle.base.specs.Scans.{is_none}
 use Rattle.base.proofs.Scans.{nothing}
 use Rattle.base.proofs.Tests.{and_first, and_second, all_of_head, all_of_tail}
-use Rattle.rules.specs.declared.Refusal.{Refusal}
 use Rattle.rules.specs.declared.Layout.{Layout}
-use Rattle.rules.specs.Answer.{Answer, answer, refused, unless, unless_at, and_then}
+use Rattle.rules.specs.Answer.{Answer, answer, refused, unless, unless_at, and_then, Numbered}
 use Rattle.rules.specs.Layout.{moduli_of, offsets_of, layout_ok, product_of, msf_of, unit_of}
-use Rattle.rules.specs.Partitions.{partitions, total_of, partitions_fault}
-use Rattle.rules.specs.Segments.{segments, segments_fault}
+use Rattle.rules.specs.Partitions.{total_of, partitions_fault}
+use Rattle.rules.specs.Segments.{segments_fault}
 use Rattle.rules.specs.Accepted.{accepted_stamps, accepted}
 use Rattle.rules.proofs.Answers.{payload, not_answer, unless-test, unless-rest, unless-at-none, unless-at-rest}
 use Rattle.rules.proofs.Accepted.{layout_slots, partitions_facts, segments_facts}
@@ -97,7 +96,7 @@ module _ (text : List ℕ) (clock : ℤ) (lent : Lists) where
   after = lists_after (read_kernel text clock lent) lent
 
   -- a refusal leaves the lent lists
-  pub refused_kept : (k : Refusal) → read_kernel text clock lent ≡ refused k → after ≡ lent
+  pub refused_kept : (k : Numbered) → read_kernel text clock lent ≡ refused k → after ≡ lent
   unfolding lists_after fronts
   refused_kept k h = rw h
 

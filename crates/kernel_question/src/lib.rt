@@ -5,7 +5,7 @@ ghost use Rattle.std.specs.Prelude.{◌≤◌, length};
 ghost use Rattle.put.specs.Places.{Put};
 
 use script_names::Numbers;
-use script_words::hex::{ByteWord, read_bytes};
+use script_words::hex::read_bytes;
 use script_words::numbers::lent_length;
 
 // The most bytes of a kernel text.
@@ -31,16 +31,9 @@ pub fn read_kernel(
 {
     let mut bytes = [0u8; MOST_BYTES];
     match read_bytes(line, rest, &mut bytes) {
-        ByteWord::Length(n) => ask(numbers, first_bytes(&bytes, n), out, place),
-        ByteWord::Bad => answers::put_bad(out, place),
+        Some(n) => ask(numbers, &bytes[..n], out, place),
+        None => answers::put_bad(out, place),
     }
-}
-
-fn first_bytes(bytes: &[u8; MOST_BYTES], n: usize) -> &[u8]
-    requires { n ≤ 65600 }
-{
-    let all = &bytes[..];
-    &all[0..n]
 }
 
 // Lends the lists of segments, then the others.
@@ -56,9 +49,9 @@ fn ask(numbers: &Numbers, text: &[u8], out: &mut [u8], place: usize) -> usize
     ask_over(
         numbers,
         text,
-        &mut counts[0..c],
-        &mut times[0..t],
-        &mut rates[0..r],
+        &mut counts[..c],
+        &mut times[..t],
+        &mut rates[..r],
         out,
         place,
     )
@@ -86,10 +79,10 @@ fn ask_over(
     kernel_answers::put_kernel(
         text,
         signed::from_ordinal(numbers[0]),
-        &mut moduli[0..m],
-        &mut offsets[0..o],
-        &mut starts[0..s],
-        &mut ends[0..e],
+        &mut moduli[..m],
+        &mut offsets[..o],
+        &mut starts[..s],
+        &mut ends[..e],
         counts,
         times,
         rates,

@@ -3,8 +3,6 @@ use Rattle.std.specs.Prelude.{ℕ, Bool, List, [], ◌∷◌, ◌++◌, ℤ, leb
 use Rattle.base.specs.Scans.{all_of}
 use Rattle.rules.specs.Answer.{Answer, answer, refused, refuse, unless, and_then}
 use Rattle.kernel_rules.specs.declared.Kernel.{Kernel}
-use Rattle.kernel_rules.specs.declared.KernelAnswer.{KernelAnswer}
-use Rattle.kernel_rules.specs.declared.KernelAnswer.TheVariants as Kernels
 use Rattle.kernel_rules.specs.Lines.{kernel_lines, first_line, same}
 use Rattle.kernel_rules.specs.Names.{clock_digits}
 use Rattle.kernel_rules.specs.Tables.{Lists, Tables, values, assignments_ok, exact_ok, tables_of, tables_accepted}
@@ -69,8 +67,3 @@ fronts g lent =
 unfoldable pub lists_after : Answer Tables → Lists → Lists
 lists_after (answer t) lent = fronts t.lists lent
 lists_after (refused k) lent = lent
-
--- The paper's number and value for each case of the code's answer.
-abbrev pub kernel_answer : KernelAnswer → Answer Kernel
-kernel_answer (Kernels.Read k) = answer k
-kernel_answer (Kernels.Refused k) = refused k

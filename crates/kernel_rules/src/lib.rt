@@ -1,13 +1,11 @@
 // The types that the definitions of kernel text name.
 #![tactic(auto)]
 
-use rules::Refusal;
-
 // Bytes of a data line.
 pub const LONGEST_LINE: usize = 132;
 
 // Where a line of a kernel text ends.
-#[derive(Clone, Copy)]
+#[derive(Clone, Copy, Debug, PartialEq, Eq)]
 pub enum Stage {
     // Outside data blocks.
     Comment,
@@ -24,7 +22,7 @@ pub enum Stage {
 }
 
 // What follows an opening quote: its bytes up to the closing quote and with it, its characters, and whether it is closed.
-#[derive(Clone, Copy)]
+#[derive(Clone, Copy, Debug, PartialEq, Eq)]
 pub struct Quoted {
     pub width: usize,
     pub chars: usize,
@@ -32,7 +30,7 @@ pub struct Quoted {
 }
 
 // A value in whole units: no number, one that is not exact in 64 bits, or a sign and the number.
-#[derive(Clone, Copy)]
+#[derive(Clone, Copy, Debug, PartialEq, Eq)]
 pub enum Number {
     Malformed,
     Inexact,
@@ -41,17 +39,11 @@ pub enum Number {
 }
 
 // What reading a kernel gives beside the lists.
-#[derive(Clone, Copy)]
+#[derive(Clone, Copy, Debug, PartialEq, Eq)]
 pub struct Kernel {
     pub n: usize,
     pub delimiter: u8,
     pub system: u8,
     pub partitions: usize,
     pub segments: usize,
-}
-
-#[derive(Clone, Copy)]
-pub enum KernelAnswer {
-    Read(Kernel),
-    Refused(Refusal),
 }

@@ -47,102 +47,64 @@ pub fn width_at(l: &[u8], i: usize) -> usize
 }
 
 // What a token does to a list.
+#[tactic(auto, unfolding(kernel_rules::specs::Tokens::item, kernel_rules::specs::Tokens::item_by))]
 pub fn item(t: &[u8], p: Stage) -> Stage
     requires { 0 < length t.now }
     ensures { result ≡ item p t.now }
 {
-    let b = t[0];
-    if b == b',' {
-        return with_comma(p);
+    match t[0] {
+        b',' => with_comma(p),
+        b'(' => Stage::Forbidden,
+        b')' => with_close(p),
+        b'\'' => with_string(p, is_string(t)),
+        _ => with_number(p, is_number_or_date(t)),
     }
-    if b == b'(' {
-        return Stage::Forbidden;
-    }
-    if b == b')' {
-        return with_close(p);
-    }
-    if b == b'\'' {
-        return with_string(p, is_string(t));
-    }
-    with_number(p, is_number_or_date(t))
 }
 
+#[tactic(auto, unfolding(kernel_rules::specs::Tokens::is_number_or_date))]
 fn is_number_or_date(t: &[u8]) -> bool
     requires { 0 < length t.now }
     ensures { result ≡ is_number_or_date t.now }
 {
-    if t[0] == b'@' {
-        return true;
-    }
-    is_number(t)
+    t[0] == b'@' || is_number(t)
 }
 
+#[tactic(auto, unfolding(kernel_rules::specs::Tokens::with_comma))]
 pub fn with_comma(p: Stage) -> Stage
     ensures { result ≡ with_comma p }
 {
     match p {
-        Stage::Opened => Stage::Opened,
-        Stage::Numbers => Stage::Numbers,
-        Stage::Strings => Stage::Strings,
-        Stage::Comment => Stage::Forbidden,
-        Stage::Data => Stage::Forbidden,
-        Stage::Forbidden => Stage::Forbidden,
+        Stage::Opened | Stage::Numbers | Stage::Strings => p,
+        Stage::Comment | Stage::Data | Stage::Forbidden => Stage::Forbidden,
     }
 }
 
+#[tactic(auto, unfolding(kernel_rules::specs::Tokens::with_close))]
 pub fn with_close(p: Stage) -> Stage
     ensures { result ≡ with_close p }
 {
     match p {
-        Stage::Opened => Stage::Forbidden,
-        Stage::Numbers => Stage::Data,
-        Stage::Strings => Stage::Data,
-        Stage::Comment => Stage::Forbidden,
-        Stage::Data => Stage::Forbidden,
-        Stage::Forbidden => Stage::Forbidden,
+        Stage::Numbers | Stage::Strings => Stage::Data,
+        Stage::Opened | Stage::Comment | Stage::Data | Stage::Forbidden => Stage::Forbidden,
     }
 }
 
+#[tactic(auto, unfolding(kernel_rules::specs::Tokens::with_number))]
 fn with_number(p: Stage, good: bool) -> Stage
     ensures { result ≡ with_number p good }
 {
     match p {
-        Stage::Opened => numbers_if(good),
-        Stage::Numbers => numbers_if(good),
-        Stage::Strings => Stage::Forbidden,
-        Stage::Comment => Stage::Forbidden,
-        Stage::Data => Stage::Forbidden,
-        Stage::Forbidden => Stage::Forbidden,
+        Stage::Opened | Stage::Numbers if good => Stage::Numbers,
+        _ => Stage::Forbidden,
     }
 }
 
-fn numbers_if(good: bool) -> Stage
-    ensures { result ≡ cond good Stage.Numbers Stage.Forbidden }
-{
-    if good {
-        return Stage::Numbers;
-    }
-    Stage::Forbidden
-}
-
+#[tactic(auto, unfolding(kernel_rules::specs::Tokens::with_string))]
 fn with_string(p: Stage, good: bool) -> Stage
     ensures { result ≡ with_string p good }
 {
     match p {
-        Stage::Opened => strings_if(good),
-        Stage::Numbers => Stage::Forbidden,
-        Stage::Strings => strings_if(good),
-        Stage::Comment => Stage::Forbidden,
-        Stage::Data => Stage::Forbidden,
-        Stage::Forbidden => Stage::Forbidden,
+        Stage::Opened | Stage::Strings if good => Stage::Strings,
+        _ => Stage::Forbidden,
     }
-}
-
-fn strings_if(good: bool) -> Stage
-    ensures { result ≡ cond good Stage.Strings Stage.Forbidden }
-{
-    if good {
-        return Stage::Strings;
-    }
-    Stage::Forbidden
 }

@@ -1,32 +1,27 @@
 // Where a value ends, and strings.
-ghost use Rattle.std.specs.Prelude.{◌≡◌, ◌+◌, ◌≤◌, false, not, ◌&&◌, cond, length, drop};
+ghost use Rattle.std.specs.Prelude.{◌≡◌, ◌+◌, ◌≤◌, false, not, ◌&&◌, leb, eqb, cond, length, drop};
 ghost use Rattle.kernel_rules.specs.Lines.{span};
-ghost use Rattle.kernel_rules.specs.Tokens.{is_quote, ends_value, in_value, quoted, string_width, is_string};
+ghost use Rattle.kernel_rules.specs.Tokens.{is_quote, ends_value, in_value, quoted, string_width, longest_string, is_string};
 
+use kernel_lines::kinds::{ByteKind, after};
 use kernel_rules::Quoted;
 
 const LONGEST_STRING: usize = 80;
 
-// Digits, letters, signs and points come first: what ends a value is at most a comma.
 pub fn ends_value(b: u8) -> bool
     ensures { result ≡ ends_value b }
 {
-    if b',' < b {
-        return false;
+    matches!(b, b' ' | b'\t' | b',' | b'(' | b')')
+}
+
+struct InValue;
+
+impl ByteKind for InValue {
+    ghost is_one = { in_value };
+
+    fn is_one(b: u8) -> bool {
+        !ends_value(b)
     }
-    if b == b' ' {
-        return true;
-    }
-    if b == b'\t' {
-        return true;
-    }
-    if b == b',' {
-        return true;
-    }
-    if b == b'(' {
-        return true;
-    }
-    b == b')'
 }
 
 // How many bytes of a value stand from a place on.
@@ -35,14 +30,7 @@ pub fn value_width(l: &[u8], from: usize) -> usize
     ensures value { result ≡ span in_value (drop from l.now) }
     ensures result_in_bounds { from + result ≤ length l.now }
 {
-    let mut i = from;
-    while i < l.len() {
-        if ends_value(l[i]) {
-            return i - from;
-        }
-        i += 1;
-    }
-    i - from
+    after::<InValue>(l, from) - from
 }
 
 // The width of a string behind its opening quote: up to the closing one, and on to the value's end.
@@ -56,18 +44,19 @@ pub fn string_width(l: &[u8], from: usize) -> usize
 }
 
 // Whether a token that begins with a quote is a string.
+#[tactic(auto, using(crate::proofs::ValueEnds::string_told))]
 pub fn is_string(t: &[u8]) -> bool
     requires { 1 ≤ length t.now }
     ensures { result ≡ is_string t.now }
 {
-    let q = read_quoted(t, 1);
-    if !q.closed {
-        return false;
-    }
-    if LONGEST_STRING < q.chars {
-        return false;
-    }
-    q.width == t.len() - 1
+    closes_at_end(read_quoted(t, 1), t.len() - 1)
+}
+
+// Whether the string is closed, not too long, and has nothing behind it of its n bytes.
+fn closes_at_end(q: Quoted, n: usize) -> bool
+    ensures { result ≡ (q.closed && leb q.chars longest_string && eqb q.width n) }
+{
+    q.closed && q.chars <= LONGEST_STRING && q.width == n
 }
 
 // What follows an opening quote, from a place on.
@@ -103,20 +92,14 @@ fn read_quoted(l: &[u8], from: usize) -> Quoted
 fn is_over(quote: bool, b: u8) -> bool
     ensures { result ≡ (quote && not (is_quote b)) }
 {
-    if quote {
-        return b != b'\'';
-    }
-    false
+    quote && b != b'\''
 }
 
 // A quote that none stands directly before: it closes the string or is the first of two.
 fn is_first_quote(quote: bool, b: u8) -> bool
     ensures { result ≡ (not quote && is_quote b) }
 {
-    if quote {
-        return false;
-    }
-    b == b'\''
+    !quote && b == b'\''
 }
 
 // Such a quote is no character yet.
@@ -124,8 +107,5 @@ fn one_unless(quote: bool) -> usize
     ensures value { result ≡ cond quote 0 1 }
     ensures upper_bound { result ≤ 1 }
 {
-    if quote {
-        return 0;
-    }
-    1
+    if quote { 0 } else { 1 }
 }

@@ -1,4 +1,3 @@
-pub mod Tests
 pub mod Storing
 pub mod Numbers
 pub mod Filling

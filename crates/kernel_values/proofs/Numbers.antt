@@ -1,5 +1,6 @@
 -- Numbers as the code tells them apart: whether a value is one, and one in 64 bits with a sign.
 use Prim.Native.Nat.{ℕ, zero, suc, ◌+◌, ◌-◌, ◌^◌, ◌%◌, ◌/◌, ◌≤◌, ◌<◌}
+use mathlib.Core.Logic.{◌⊎◌, inl, inr}
 use mathlib.Core.Path.{◌≡◌, refl, ◌∙◌}
 use mathlib.Core.Bool.{Bool, true, false, ◌&&◌}
 use lib.IntN.{ℤ, pos, neg_ℤ}
@@ -67,13 +68,10 @@ minus_beyond v h = rw (lt-leb v (2 ^ 63) h)
 
 -- the cases of a number
 module _ (n : Number) where
-  pub time_malformed : n ≡ Malformed → pos 0 ≡ signed_or0 n
+  pub time_none : (n ≡ Malformed) ⊎ (n ≡ Inexact) → pos 0 ≡ signed_or0 n
   unfolding signed_or0 is_signed
-  time_malformed e = rw e
-
-  pub time_inexact : n ≡ Inexact → pos 0 ≡ signed_or0 n
-  unfolding signed_or0 is_signed
-  time_inexact e = rw e
+  time_none (inl e) = rw e
+  time_none (inr e) = rw e
 
   pub time_told : (m : Number) (z : ℤ) → n ≡ m → SFits w64 z → z ≡ signed_or0 m → to_z w64 (of_z w64 z) ≡ signed_or0 n
   time_told m z e f q = to_z-of_z f ∙ q ∙ rw e

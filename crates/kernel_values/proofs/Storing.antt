@@ -47,9 +47,6 @@ module _ {A : Type 0} where
   pub stored_whole : (out xs : List A) → length xs ≤ length out → take (length xs) (stored xs out) ≡ xs
   stored_whole out xs h = stored_front out xs (length xs) (omega arith) ∙ take_all (length out) xs h
 
-  pub store_out : (out : List A) (i : ℕ) (x : A) → length out ≤ i → out ≡ set out i x
-  store_out out i x h = sym (set_out out i x h)
-
   pub set_with : (l out : List A) (i : ℕ) (x y : A) → out ≡ set l i x → x ≡ y → out ≡ set l i y
   set_with l out i x y e q = e ∙ rw q
 

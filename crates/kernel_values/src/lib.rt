@@ -1,7 +1,7 @@
 // The values of one assignment, read from the place of its own line and stored in lent lists.
 #![tactic(auto)]
 
-ghost use Rattle.std.specs.Prelude.{◌≡◌, true, cond, ◌&&◌, ◌≤◌, ◌<◌, eqb, length, set};
+ghost use Rattle.std.specs.Prelude.{◌≡◌, true, cond, ◌≤◌, ◌<◌, eqb, length, set};
 ghost use Rattle.kernel_rules.specs.Tables.{every, numbers, whole, in_nanoseconds, in_picoseconds, is_unsigned, unsigned, is_signed, counts_in, times_in, rates_in};
 ghost use Rattle.kernel_walk.specs.Places.{line_here, lines_behind, values_here};
 ghost use Rattle.kernel_values.specs.Storing.{stored};
@@ -54,17 +54,15 @@ pub fn fill_list(text: &[u8], at: usize, out: &mut [u64]) -> Filled
     let mut good = true;
     let mut exact = true;
     while v.found {
-        let from = v.from;
-        let to = v.to;
         let judged = store_number(
             out,
             count,
-            kernel_numbers::read_number(&text[from..to], WHOLE),
+            kernel_numbers::read_number(&text[v.from..v.to], WHOLE),
         );
-        good = both(good, judged.number);
-        exact = both(exact, judged.exact);
+        good &= judged.number;
+        exact &= judged.exact;
         count += 1;
-        v = kernel_walk::next_value(text, to, v.end, v.next);
+        v = kernel_walk::next_value(text, v.to, v.end, v.next);
     }
     Filled {
         plain: kernel_walk::is_plain(text, at),
@@ -93,13 +91,18 @@ pub fn fill_rows(
     let mut good = true;
     let mut exact = true;
     while v.found {
-        let from = v.from;
-        let to = v.to;
-        let judged = store_column(&text[from..to], count % 3, count / 3, counts, times, rates);
-        good = both(good, judged.number);
-        exact = both(exact, judged.exact);
+        let judged = store_column(
+            &text[v.from..v.to],
+            count % 3,
+            count / 3,
+            counts,
+            times,
+            rates,
+        );
+        good &= judged.number;
+        exact &= judged.exact;
         count += 1;
-        v = kernel_walk::next_value(text, to, v.end, v.next);
+        v = kernel_walk::next_value(text, v.to, v.end, v.next);
     }
     Filled {
         plain: kernel_walk::is_plain(text, at),
@@ -123,10 +126,8 @@ pub fn read_one(text: &[u8], at: usize) -> One
             number: Number::Malformed,
         };
     }
-    let from = v.from;
-    let to = v.to;
-    let number = kernel_numbers::read_number(&text[from..to], WHOLE);
-    let after = kernel_walk::next_value(text, to, v.end, v.next);
+    let number = kernel_numbers::read_number(&text[v.from..v.to], WHOLE);
+    let after = kernel_walk::next_value(text, v.to, v.end, v.next);
     One {
         plain,
         single: !after.found,
@@ -174,70 +175,55 @@ fn store_time(out: &mut [i64], i: usize, n: Number) -> Judged
     ensures value { result ≡ record { number = is_formed n; exact = is_signed n } }
     ensures out_after { out.new ≡ set out.old i (signed_or0 n) }
 {
-    store_signed(out, i, time_of(n));
+    store(out, i, time_of(n));
     Judged {
         number: is_formed(n),
         exact: is_signed(n),
     }
 }
 
-fn store(out: &mut [u64], i: usize, x: u64)
+fn store<T: Copy>(out: &mut [T], i: usize, x: T)
     ensures { out.new ≡ set out.old i x }
 {
-    if out.len() <= i {
-        return;
+    if i < out.len() {
+        out[i] = x;
     }
-    out[i] = x;
 }
 
-fn store_signed(out: &mut [i64], i: usize, x: i64)
-    ensures { out.new ≡ set out.old i x }
-{
-    if out.len() <= i {
-        return;
-    }
-    out[i] = x;
-}
-
+#[tactic(auto, unfolding(crate::specs::Reads::is_formed))]
 pub fn is_formed(n: Number) -> bool
     ensures { result ≡ is_formed n }
 {
-    match n {
-        Number::Malformed => false,
-        Number::Inexact => true,
-        Number::Plus(_) => true,
-        Number::Minus(_) => true,
-    }
+    n != Number::Malformed
 }
 
+#[tactic(auto, unfolding(kernel_rules::specs::Tables::is_unsigned))]
 pub fn is_unsigned(n: Number) -> bool
     ensures { result ≡ is_unsigned n }
 {
     match n {
-        Number::Malformed => false,
-        Number::Inexact => false,
+        Number::Malformed | Number::Inexact => false,
         Number::Plus(_) => true,
         Number::Minus(v) => v == 0,
     }
 }
 
+#[tactic(auto, unfolding(kernel_rules::specs::Tables::unsigned))]
 pub fn unsigned_of(n: Number) -> u64
     ensures { result ≡ unsigned n }
 {
     match n {
-        Number::Malformed => 0,
-        Number::Inexact => 0,
         Number::Plus(v) => v,
-        Number::Minus(_) => 0,
+        Number::Malformed | Number::Inexact | Number::Minus(_) => 0,
     }
 }
 
+#[tactic(auto, unfolding(kernel_rules::specs::Tables::is_signed))]
 fn is_signed(n: Number) -> bool
     ensures { result ≡ is_signed n }
 {
     match n {
-        Number::Malformed => false,
-        Number::Inexact => false,
+        Number::Malformed | Number::Inexact => false,
         Number::Plus(v) => v < LIMIT,
         Number::Minus(v) => v <= LIMIT,
     }
@@ -247,8 +233,7 @@ fn time_of(n: Number) -> i64
     ensures { result ≡ signed_or0 n }
 {
     match n {
-        Number::Malformed => 0,
-        Number::Inexact => 0,
+        Number::Malformed | Number::Inexact => 0,
         Number::Plus(v) => plus_time(v),
         Number::Minus(v) => minus_time(v),
     }
@@ -258,25 +243,18 @@ fn plus_time(v: u64) -> i64
     ensures { result ≡ signed_or0 (Number.Plus v) }
 {
     if v < LIMIT {
-        return signed::from_ordinal(LIMIT + v);
+        signed::from_ordinal(LIMIT + v)
+    } else {
+        0
     }
-    0
 }
 
 fn minus_time(v: u64) -> i64
     ensures { result ≡ signed_or0 (Number.Minus v) }
 {
     if v <= LIMIT {
-        return signed::from_ordinal(LIMIT - v);
+        signed::from_ordinal(LIMIT - v)
+    } else {
+        0
     }
-    0
-}
-
-pub fn both(a: bool, b: bool) -> bool
-    ensures { result ≡ (a && b) }
-{
-    if a {
-        return b;
-    }
-    false
 }

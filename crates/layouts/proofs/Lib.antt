@@ -1,4 +1,5 @@
 -- Laws of the layout check.
+pub mod Chains
 pub mod Walks
 pub mod Slots
 pub mod Units

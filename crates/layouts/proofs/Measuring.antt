@@ -1,22 +1,22 @@
 -- What each way out of `measure` says of the layout: 1 and why, or its two numbers.
-use Prim.Native.Nat.{ℕ, zero, suc, ◌+◌, ◌*◌, ◌≤◌, ◌<◌, min}
+use Prim.Native.Nat.{ℕ, zero, suc, ◌+◌, ◌*◌, ◌≤◌, min}
 use mathlib.Core.Path.{◌≡◌, refl, sym, ◌∙◌}
-use mathlib.Core.Bool.{Bool, true, false, not, and-true}
+use mathlib.Core.Bool.{Bool, true, false, not}
 use mathlib.Core.List.{List, [], ◌∷◌, map}
 use native.Mathlib.Nat.{zero-mul, mul-zero}
 use native.Mathlib.Omega.{arith}
 use lib.Dec.{leb}
 use lib.ListN.{length, get_or, drop}
-use borrow.Author.Tests.{le-leb, lt-leb, leb-true, not-true, not-false}
+use borrow.Author.Tests.{le-leb, leb-true, not-true, not-false}
 use Rattle.base.specs.Scans.{all_of, all, product}
 use Rattle.base.proofs.Lists.{product_pos}
 use Rattle.base.proofs.Tests.{by_test, not_both, and_both, all_of_head, all_of_tail}
 use Rattle.rules.specs.declared.Layout.{Layout}
-use Rattle.rules.specs.Limits.{most_fields, largest_offset, largest_p, largest_msf, last_delimiter, picoseconds}
+use Rattle.rules.specs.Limits.{most_fields, largest_offset, largest_p, largest_msf, last_delimiter}
 use Rattle.rules.specs.Layout.{moduli_of, offsets_of, product_of, msf_of, unit_of, layout_ok}
 use Rattle.rules.specs.Facts.{LayoutFacts}
 use Rattle.rules.proofs.Accepted.{layout_facts, layout_accepted}
-use Rattle.rules.specs.Answer.{Answer, answer, refuse, unless}
+use Rattle.rules.specs.Answer.{Answer, refuse, unless}
 use Rattle.layouts.specs.Measure.{measure_of, head_ok, measured_by}
 use Rattle.layouts.specs.declared.Measured.{Measured}
 use Rattle.layouts.proofs.Slots.{slots_within, product_of_slots}
@@ -99,50 +99,8 @@ module _ (l : Layout) where
           rw (t, ok, em, ef, ← msf))
           (λ f. rw f (refused_by (λ g. not_both (tests g) f)))
 
--- the ways out of `measure_moduli`
-module _ (first m : ℕ) where
-  pub large_msf : largest_msf < m → refuse 1 ≡ measured_by first m
-  unfolding measured_by unless all_of
-  large_msf h = rw (lt-leb m largest_msf h)
-
-  module _ (small : m ≤ largest_msf) (p : ℕ) (q : p ≡ min (first * m) (largest_p + 1)) where
-    pub large_product : largest_p < p → refuse 1 ≡ measured_by first m
-    unfolding measured_by unless all_of
-    large_product h = rw (le-leb m largest_msf small, lt-leb (first * m) largest_p (omega arith))
-
-    module _ (bound : p ≤ largest_p) where
-      exact : p ≡ first * m
-      exact = uncapped (first * m) p largest_p q bound
-
-      pub zero_product : p < 1 → refuse 1 ≡ measured_by first m
-      unfolding measured_by unless all_of
-      zero_product h = rw (le-leb m largest_msf small, ← exact, le-leb p largest_p bound, lt-leb 1 p h)
-
-      pub accepted : 1 ≤ p → answer (record { product = p; unit = picoseconds * m }) ≡ measured_by first m
-      unfolding measured_by unless all_of
-      accepted h = rw (le-leb m largest_msf small, ← exact, le-leb p largest_p bound, le-leb 1 p h)
-
--- the ways out of `head_ok`
+-- a good head has few fields
 module _ (n d : ℕ) where
-  pub no_fields : n < 1 → false ≡ head_ok n d
-  unfolding head_ok all_of
-  no_fields h = rw (lt-leb 1 n h)
-
-  module _ (some : 1 ≤ n) where
-    pub many_fields : most_fields < n → false ≡ head_ok n d
-    unfolding head_ok all_of
-    many_fields h = rw (le-leb 1 n some, lt-leb n most_fields h)
-
-    module _ (few : n ≤ most_fields) where
-      pub low_delimiter : d < 1 → false ≡ head_ok n d
-      unfolding head_ok all_of
-      low_delimiter h = rw (le-leb 1 n some, le-leb n most_fields few, lt-leb 1 d h)
-
-      pub high_delimiter : 1 ≤ d → leb d last_delimiter ≡ head_ok n d
-      unfolding head_ok all_of
-      high_delimiter h = rw (le-leb 1 n some, le-leb n most_fields few, le-leb 1 d h) (sym (and-true (leb d last_delimiter)))
-
-  -- a good head has few fields
   module _ {b : Bool} (test : b ≡ head_ok n d) (good : not b ≡ false) where
     holds : head_ok n d ≡ true
     holds = sym test ∙ not-false b good

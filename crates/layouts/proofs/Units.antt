@@ -1,4 +1,6 @@
 -- The unit of an accepted layout may divide, and what a caller has of `measure`.
+use Rattle.rules.specs.declared.refusal.Refusal.{Refusal}
+use Rattle.std.specs.Prelude.{Result, Ok, Err}
 use Prim.Native.Nat.{ℕ}
 use mathlib.Core.Path.{◌≡◌, sym}
 use native.Mathlib.Omega.{arith}
@@ -6,16 +8,13 @@ use lib.Dec.{leb}
 use lib.ListN.{drop}
 use Rattle.base.proofs.Lists.{all_drop_one, product_pos}
 use Rattle.rules.specs.declared.Layout.{Layout}
-use Rattle.rules.specs.declared.Refusal.{Refusal}
-use Rattle.rules.specs.Answer.{answer}
+use Rattle.rules.specs.Answer.{answer, answer_of}
 use Rattle.rules.specs.Layout.{layout_ok, moduli_of, msf_of, unit_of}
 use Rattle.rules.specs.Facts.{LayoutFacts}
 use Rattle.rules.proofs.Accepted.{layout_facts}
 use Rattle.rules.proofs.Answers.{unless-test, unless-rest}
 use Rattle.layouts.specs.declared.Measured.{Measured}
-use Rattle.layouts.specs.declared.MeasureAnswer.{MeasureAnswer}
-use Rattle.layouts.specs.declared.MeasureAnswer.TheVariants as Of
-use Rattle.layouts.specs.Measure.{measured, measure_answer, measure_of, UnitFacts, InLimits}
+use Rattle.layouts.specs.Measure.{measured, measure_of, UnitFacts, InLimits}
 
 pub unit_facts : (l : Layout) → LayoutFacts l → UnitFacts (unit_of l)
 unfolding unit_of msf_of
@@ -33,12 +32,12 @@ measured_unit l m e =
     let unit : m.unit ≡ unit_of l = cc in
     rw unit (unit_facts l (layout_facts l good))
 
-pub measured_in_limits : (l : Layout) (r : MeasureAnswer) → measure_answer r ≡ measure_of l → InLimits r
-measured_in_limits l (Of.Accepted m) e = record { unit = λ k same. rw (← (accepted_is same)) (measured_unit l m e) }
+pub measured_in_limits : (l : Layout) (r : Result Measured Refusal) → answer_of r ≡ measure_of l → InLimits r
+measured_in_limits l (Ok m) e = record { unit = λ k same. rw (← (accepted_is same)) (measured_unit l m e) }
   where
-    accepted_is : {a b : Measured} → ◌≡◌ {A = MeasureAnswer} (Of.Accepted a) (Of.Accepted b) → a ≡ b
+    accepted_is : {a b : Measured} → ◌≡◌ {A = Result Measured Refusal} (Ok a) (Ok b) → a ≡ b
     accepted_is h = cc
-measured_in_limits l (Of.Refused k) e = record { unit = λ m same. absurd (not_accepted_lem same) }
+measured_in_limits l (Err k) e = record { unit = λ m same. absurd (not_accepted_lem same) }
   where
-    not_accepted_lem : {k : Refusal} {m : Measured} → ◌≡◌ {A = MeasureAnswer} (Of.Refused k) (Of.Accepted m) → ⊥
+    not_accepted_lem : {k : Refusal} {m : Measured} → ◌≡◌ {A = Result Measured Refusal} (Err k) (Ok m) → ⊥
     not_accepted_lem h = let z : ◌≡◌ {A = ℕ} 0 1 = cc in omega arith

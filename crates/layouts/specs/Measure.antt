@@ -1,20 +1,15 @@
 -- What measuring a layout answers.
-use Rattle.std.specs.Prelude.{ℕ, ◌*◌, ◌≤◌, ◌≡◌, Bool, [], ◌∷◌, leb}
+use Rattle.rules.specs.declared.refusal.Refusal.{Refusal}
+use Rattle.std.specs.Prelude.{ℕ, ◌*◌, ◌≤◌, ◌≡◌, Bool, [], ◌∷◌, leb, Result, Ok}
 use Rattle.base.specs.Scans.{all_of}
 use Rattle.rules.specs.declared.Layout.{Layout}
-use Rattle.rules.specs.Answer.{Answer, answer, refused, unless}
+use Rattle.rules.specs.Answer.{Answer, answer, unless}
 use Rattle.rules.specs.Layout.{layout_ok, product_of, unit_of}
 use Rattle.rules.specs.Limits.{most_fields, last_delimiter, largest_p, largest_msf, picoseconds, largest_unit}
 use Rattle.layouts.specs.declared.Measured.{Measured}
-use Rattle.layouts.specs.declared.MeasureAnswer.{MeasureAnswer}
-use Rattle.layouts.specs.declared.MeasureAnswer.TheVariants as Of
 
 abbrev pub measured : Layout → Measured
 measured l = record { product = product_of l; unit = unit_of l }
-
-abbrev pub measure_answer : MeasureAnswer → Answer Measured
-measure_answer (Of.Accepted m) = answer m
-measure_answer (Of.Refused k) = refused k
 
 -- 1, and the two numbers
 unfoldable pub measure_of : Layout → Answer Measured
@@ -35,5 +30,5 @@ pub record UnitFacts (unit : ℕ) : Type 0 where
   pub high : unit ≤ largest_unit
 
 -- what a measure says of its unit, whatever the layout was; a refused one has none
-pub record InLimits (r : MeasureAnswer) : Type 0 where
-  pub unit : (m : Measured) → r ≡ Of.Accepted m → UnitFacts m.unit
+pub record InLimits (r : Result Measured Refusal) : Type 0 where
+  pub unit : (m : Measured) → r ≡ Ok m → UnitFacts m.unit

@@ -1,10 +1,9 @@
 // The layout check, with the two numbers that other tables and calls need of a layout.
 #![tactic(auto)]
 
-ghost use Rattle.std.specs.Prelude.{◌≡◌, ◌≤◌, min, leb, length, take, drop};
-ghost use Rattle.base.specs.Scans.{all, product};
-ghost use Rattle.rules.specs.Limits.{most_fields};
-ghost use Rattle.layouts.specs.Measure.{measure_answer, measure_of, head_ok, measured_by};
+ghost use Rattle.std.specs.Prelude.{◌≡◌, ◌≤◌, ◌*◌, ◌↔◌, min, drop, fold, All, IsTrue};
+ghost use Rattle.layouts.specs.Measure.{measure_of, head_ok, measured_by};
+ghost use Rattle.rules.specs.Answer.{answer_of};
 
 use rules::{Layout, Refusal};
 use wide::mul_capped;
@@ -18,87 +17,53 @@ pub struct Measured {
     pub unit: u64,
 }
 
-#[derive(Clone, Copy)]
-pub enum MeasureAnswer {
-    Accepted(Measured),
-    Refused(Refusal),
-}
-
-pub fn measure(layout: Layout) -> MeasureAnswer
-    ensures { measure_answer result ≡ measure_of layout }
+pub fn measure(layout: Layout) -> Result<Measured, Refusal>
+    ensures { answer_of result ≡ measure_of layout }
 {
     let n = layout.n;
-    if !head_ok(n, layout.delimiter) {
-        return MeasureAnswer::Refused(refusals::LAYOUT);
+    if !head_ok(n, layout.delimiter) || !all_at_most(&layout.offsets[..n], Layout::LARGEST_OFFSET) {
+        return Err(Refusal::Layout);
     }
-    if !all_at_most(&layout.offsets, n, Layout::LARGEST_OFFSET) {
-        return MeasureAnswer::Refused(refusals::LAYOUT);
-    }
-    let msf = product_capped(&layout.moduli, n, Layout::LARGEST_MSF + 1);
+    let msf = product_capped(&layout.moduli[..n], Layout::LARGEST_MSF + 1);
     measure_moduli(layout.moduli[0], msf)
 }
 
 // Whether n and the delimiter's code are within their limits.
+#[tactic(auto, unfolding(crate::specs::Measure::head_ok, base::specs::Scans::all_of))]
 pub fn head_ok(n: usize, delimiter: u8) -> bool
     ensures { result ≡ head_ok n delimiter }
 {
-    if n < 1 {
-        return false;
-    }
-    if Layout::MOST_FIELDS < n {
-        return false;
-    }
-    if delimiter < 1 {
-        return false;
-    }
-    delimiter <= limits::LAST_DELIMITER
+    1 <= n && n <= Layout::MOST_FIELDS && 1 <= delimiter && delimiter <= limits::LAST_DELIMITER
 }
 
 // By the first modulus and the product of the others.
-pub fn measure_moduli(first: u64, msf: u64) -> MeasureAnswer
-    ensures { measure_answer result ≡ measured_by first msf }
+#[tactic(auto, unfolding(crate::specs::Measure::measured_by, rules::specs::Answer::unless, base::specs::Scans::all_of))]
+pub fn measure_moduli(first: u64, msf: u64) -> Result<Measured, Refusal>
+    ensures { answer_of result ≡ measured_by first msf }
 {
     if Layout::LARGEST_MSF < msf {
-        return MeasureAnswer::Refused(refusals::LAYOUT);
+        return Err(Refusal::Layout);
     }
     let product = mul_capped(first, msf, Layout::LARGEST_P + 1);
-    if Layout::LARGEST_P < product {
-        return MeasureAnswer::Refused(refusals::LAYOUT);
+    if Layout::LARGEST_P < product || product < 1 {
+        return Err(Refusal::Layout);
     }
-    if product < 1 {
-        return MeasureAnswer::Refused(refusals::LAYOUT);
-    }
-    MeasureAnswer::Accepted(Measured {
+    Ok(Measured {
         product,
         unit: limits::PICOSECONDS * msf,
     })
 }
 
-// Whether each of the first `n` numbers is at most `limit`.
-fn all_at_most(xs: &[u64; Layout::MOST_FIELDS], n: usize, limit: u64) -> bool
-    requires { (n ≤ most_fields) × (n ≤ length xs.now) }
-    ensures { result ≡ all (λ x. leb x limit) (take n xs.now) }
+// Whether each number is at most `limit`.
+fn all_at_most(xs: &[u64], limit: u64) -> bool
+    ensures { IsTrue result ↔ All (λ x. x ≤ limit) xs.now }
 {
-    let mut i = 0;
-    while i < n {
-        if limit < xs[i] {
-            return false;
-        }
-        i += 1;
-    }
-    true
+    xs.iter().all(|&x| x <= limit)
 }
 
-// The product of the first `n` numbers but the first, or `cap` where it is above that.
-fn product_capped(xs: &[u64; Layout::MOST_FIELDS], n: usize, cap: u64) -> u64
-    requires { (1 ≤ n) × (n ≤ most_fields) × (n ≤ length xs.now) × (1 ≤ cap) }
-    ensures { result ≡ min (product (drop 1 (take n xs.now))) cap }
+// The product of the numbers but the first, or `cap` where it is above that.
+fn product_capped(xs: &[u64], cap: u64) -> u64
+    ensures { result ≡ fold (λ a x. min (a * x) cap) 1 (drop 1 xs.now) }
 {
-    let mut acc: u64 = 1;
-    let mut i = 1;
-    while i < n {
-        acc = mul_capped(acc, xs[i], cap);
-        i += 1;
-    }
-    acc
+    xs.iter().skip(1).fold(1, |acc, &x| mul_capped(acc, x, cap))
 }

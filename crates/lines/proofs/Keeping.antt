@@ -2,8 +2,10 @@
 use Prim.Native.Nat.{ℕ, ◌+◌, ◌-◌, ◌≤◌, ◌<◌, min}
 use mathlib.Core.Path.{◌≡◌, sym, ◌∙◌}
 use mathlib.Core.List.{List}
-use lib.ListN.{length, get_or, drop, set, drop_of_length-le}
-use lib.Seq.{paste, paste-suc}
+use lib.ListN.{length, get_or, take, drop, drop_of_length-le}
+use lib.Seq.{paste, take-take, length-take-le}
+use borrow.Rule.Slice.PartMut.{put_mid}
+use Rattle.std.proofs.lemmas.Slice.{put_mid-paste}
 use borrow.Author.Tests.{eq-eqb, ne_eqb}
 use native.Mathlib.Omega.{arith}
 use native.Mathlib.Numerals.{add-one}
@@ -28,14 +30,13 @@ module _ (s : List ℕ) (at i : ℕ) (e : end_of s at ≡ end_of s i) where
   unfolding line_in
   found_last h = sym (e ∙ rw (drop_of_length-le s h) (omega arith))
 
--- a copy of `part` behind the first `at` elements of `d`, element by element
-module _ (d : List ℕ) (at : ℕ) (part : List ℕ) where
-  pub copy_next :
-      {l : List ℕ} (n i : ℕ) → l ≡ paste d at part i → n ≡ min (length part) (length d - at) → i < n → set l (at + i) (get_or part i 0) ≡ paste d at part (i + 1)
-  copy_next {l} n i e m h = rw (e, add-one) (paste-suc d at part i 0 (omega arith) (omega arith))
-
-  pub copy_done : {l : List ℕ} (n i : ℕ) → l ≡ paste d at part i → i ≤ n → n ≤ i → l ≡ paste d at part (at + n - at)
-  copy_done {l} n i e h k = e ∙ rw same
-    where
-      same : at + n - at ≡ i
-      same = omega arith
+-- a copy of the first n bytes of `part` behind the first `at` elements of `d`
+pub kept_part :
+    (d part c : List ℕ) (at n : ℕ)
+    → n ≡ min (length part) (length d - at)
+    → c ≡ take n part
+    → put_mid at (at + n - at) d c ≡ paste d at part (at + n - at)
+kept_part d part c at n e i = put_mid-paste at (at + n - at) d c (take n part) n i (omega arith) (sym (length-take-le n part (omega arith))) ∙ rw (same, take-take n n part (omega arith))
+  where
+    same : at + n - at ≡ n
+    same = omega arith

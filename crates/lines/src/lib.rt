@@ -63,17 +63,7 @@ fn keep(line: &mut [u8], kept: usize, part: &[u8]) -> usize
     ensures value { result ≡ kept + min (length part.now) (length line.old - kept) }
     ensures line_after { line.new ≡ paste line.old kept part.now (result - kept) }
 {
-    let n = smaller(part.len(), line.len() - kept);
-    let mut i = 0;
-    while i < n {
-        line[kept + i] = part[i];
-        i += 1;
-    }
+    let n = part.len().min(line.len() - kept);
+    line[kept..kept + n].copy_from_slice(&part[..n]);
     kept + n
-}
-
-fn smaller(a: usize, b: usize) -> usize
-    ensures { result ≡ min a b }
-{
-    if a < b { a } else { b }
 }

@@ -1,4 +1,6 @@
 -- What the trailer of a message says at each way out of reading it.
+use Rattle.rules.specs.declared.refusal.Refusal.{Refusal}
+use Rattle.std.specs.Prelude.{Result, Ok, Err}
 use Prim.Native.Nat.{ℕ, ◌+◌, ◌-◌, ◌*◌, ◌≤◌, ◌<◌}
 use mathlib.Core.Path.{◌≡◌, sym, ap, ◌∙◌}
 use mathlib.Core.Bool.{Bool, true, false, not, ◌&&◌}
@@ -10,17 +12,14 @@ use borrow.Author.Tests.{le-leb, lt-leb, leb-true, not-true, not-false}
 use Rattle.base.proofs.Tests.{and_second}
 use Rattle.rules.specs.Limits.{longest_text}
 use Rattle.rules.specs.declared.Layout.{Layout}
-use Rattle.rules.specs.declared.Refusal.{Refusal}
 use Rattle.rules.specs.declared.Reading.{Reading}
 use Rattle.rules.specs.Partitions.{Partitions}
-use Rattle.rules.specs.Answer.{Answer, answer, refused, refuse, unless, and_then}
+use Rattle.rules.specs.Answer.{Answer, answer, refused, refuse, unless, and_then, as_numbered, answer_of}
 use Rattle.rules.specs.Stamp.{read_stamp}
 use Rattle.rules.specs.Message.{text_length, accepted_message, text_in, read_message}
 use Rattle.rules.proofs.Answers.{payload, not_answer, unless-test, unless-rest}
 use Rattle.tables.proofs.Guards.{passed, refused_same, then-unless}
-use Rattle.message.specs.declared.TextStart.{TextStart}
-use Rattle.message.specs.declared.TextStart.TheVariants as Of
-use Rattle.message.specs.Part.{text_start, start_in, TextAt}
+use Rattle.message.specs.Part.{start_in, TextAt}
 
 module _ (m : List ℕ) where
   pub too_short_lem : length m < 2 → refuse 21 ≡ start_in m
@@ -49,14 +48,6 @@ module _ (m : List ℕ) where
         pub in_reach : not t ≡ false → d ≤ length m - 2
         in_reach n = leb-true d (length m - 2) (and_second (leb d longest_text) _ (sym test ∙ not-false t n))
 
--- the ways out of the test of a distance
-module _ (d end : ℕ) where
-  pub not_near : longest_text < d → false ≡ (leb d longest_text && leb d end)
-  not_near h = rw (lt-leb d longest_text h)
-
-  pub near_enough : d ≤ longest_text → leb d end ≡ (leb d longest_text && leb d end)
-  near_enough h = rw (le-leb d longest_text h)
-
 module _ (m : List ℕ) where
   -- the bytes from there to the trailer are the text
   module _ (i : ℕ) (w : TextAt m i) where
@@ -70,15 +61,15 @@ module _ (m : List ℕ) where
   unfolding accepted_message
   then-accepted a f = then-unless 21 _ _ f ∙ ap (unless 21 _) (then-unless 22 _ _ f ∙ ap (unless 22 _) (then-unless 23 _ a f))
 
-  -- for a caller of `text_start`
-  module _ (r : TextStart) (e : text_start r ≡ start_in m) where
-    pub start_refused : {A : Type 0} (k : Refusal) (a : Answer A) → r ≡ Of.Refused k → refused k ≡ accepted_message m a
+  -- for a caller of `answer_of`
+  module _ (r : Result ℕ Refusal) (e : answer_of r ≡ start_in m) where
+    pub start_refused : {A : Type 0} (k : Refusal) (a : Answer A) → r ≡ Err k → refused (as_numbered k) ≡ accepted_message m a
     unfolding start_in accepted_message
     start_refused k a h =
-        refused_same k 21 _ _ _ (rw h at (sym e))
-        (λ q. refused_same k 22 _ _ _ q (λ u. refused_same k 23 _ _ _ u (λ z. absurd (not_answer (sym z)))))
+        refused_same (as_numbered k) 21 _ _ _ (rw h at (sym e))
+        (λ q. refused_same (as_numbered k) 22 _ _ _ q (λ u. refused_same (as_numbered k) 23 _ _ _ u (λ z. absurd (not_answer (sym z)))))
 
-    module _ (i : ℕ) (h : r ≡ Of.At i) where
+    module _ (i : ℕ) (h : r ≡ Ok i) where
       begun : start_in m ≡ answer i
       begun = rw h at (sym e)
 
@@ -103,11 +94,11 @@ module _ (m : List ℕ) where
       unfolding accepted_message
       start_accepted x a q = passed 21 _ _ x checked.trailer (passed 22 _ _ x checked.some_text (passed 23 _ a x checked.near q))
 
-module _ (l : Layout) (p : Partitions) (m : List ℕ) (r : TextStart) (e : text_start r ≡ start_in m) where
-  pub message_refused : (k : Refusal) → r ≡ Of.Refused k → refused k ≡ read_message l p m
+module _ (l : Layout) (p : Partitions) (m : List ℕ) (r : Result ℕ Refusal) (e : answer_of r ≡ start_in m) where
+  pub message_refused : (k : Refusal) → r ≡ Err k → refused (as_numbered k) ≡ read_message l p m
   unfolding read_message
   message_refused k h = start_refused m r e k _ h
 
-  pub message_read : (i : ℕ) (s : List ℕ) (x : Answer Reading) → r ≡ Of.At i → s ≡ text_in m → x ≡ read_stamp l p s → x ≡ read_message l p m
+  pub message_read : (i : ℕ) (s : List ℕ) (x : Answer Reading) → r ≡ Ok i → s ≡ text_in m → x ≡ read_stamp l p s → x ≡ read_message l p m
   unfolding read_message
   message_read i s x h t q = start_accepted m r e i h x _ (q ∙ rw t)

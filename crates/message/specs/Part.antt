@@ -1,13 +1,7 @@
 -- Where a message's text stands.
 use Rattle.std.specs.Prelude.{ℕ, ◌-◌, ◌≤◌, ◌≡◌, List, length}
-use Rattle.rules.specs.Answer.{Answer, answer, refused}
+use Rattle.rules.specs.Answer.{Answer, answer}
 use Rattle.rules.specs.Message.{accepted_message, text_length}
-use Rattle.message.specs.declared.TextStart.{TextStart}
-use Rattle.message.specs.declared.TextStart.TheVariants as Of
-
-abbrev pub text_start : TextStart → Answer ℕ
-text_start (Of.At i) = answer i
-text_start (Of.Refused k) = refused k
 
 -- 21, 22 and 23, and where the text's first byte stands
 unfoldable pub start_in : List ℕ → Answer ℕ

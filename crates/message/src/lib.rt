@@ -3,59 +3,52 @@
 
 ghost use Rattle.std.specs.Prelude.{◌≡◌, ◌&&◌, ◌+◌, ◌*◌, leb};
 ghost use Rattle.rules.specs.Limits.{longest_text};
-ghost use Rattle.rules.specs.Answer.{read_answer};
 ghost use Rattle.rules.specs.Partitions.{partitions};
 ghost use Rattle.rules.specs.Message.{text_in, read_message};
-ghost use Rattle.message.specs.Part.{text_start, start_in, TextAt};
+ghost use Rattle.message.specs.Part.{start_in, TextAt};
+ghost use Rattle.rules.specs.Answer.{answer_of};
 
 use layouts::limits::LONGEST_TEXT;
-use rules::{Layout, ReadAnswer, Refusal};
+use rules::{Layout, Reading, Refusal};
 use text::read_stamp;
 
-// Where the text begins.
-#[derive(Clone, Copy)]
-pub enum TextStart {
-    At(usize),
-    Refused(Refusal),
-}
-
 // A message to its stamp's encoded count.
-pub fn read_message(layout: Layout, starts: &[u64], ends: &[u64], message: &[u8]) -> ReadAnswer
-    ensures { read_answer result ≡ read_message layout (partitions starts.now ends.now) message.now }
+pub fn read_message(
+    layout: Layout,
+    starts: &[u64],
+    ends: &[u64],
+    message: &[u8],
+) -> Result<Reading, Refusal>
+    ensures { answer_of result ≡ read_message layout (partitions starts.now ends.now) message.now }
 {
-    match text_start(message) {
-        TextStart::At(start) => read_stamp(layout, starts, ends, text_part(message, start)),
-        TextStart::Refused(k) => ReadAnswer::Refused(k),
-    }
+    let start = text_start(message)?;
+    read_stamp(layout, starts, ends, text_part(message, start))
 }
 
 // The trailer's L is checked here, before anything goes by it.
-pub fn text_start(message: &[u8]) -> TextStart
-    ensures { text_start result ≡ start_in message.now }
+pub fn text_start(message: &[u8]) -> Result<usize, Refusal>
+    ensures { answer_of result ≡ start_in message.now }
 {
     let length = message.len();
     if length < 2 {
-        return TextStart::Refused(refusals::NO_TRAILER);
+        return Err(Refusal::NoTrailer);
     }
     let end = length - 2;
     let distance = number(message[end], message[length - 1]);
     if distance < 1 {
-        return TextStart::Refused(refusals::NO_TEXT);
+        return Err(Refusal::NoText);
     }
     if !is_near(distance, end) {
-        return TextStart::Refused(refusals::WRONG_DISTANCE);
+        return Err(Refusal::WrongDistance);
     }
-    TextStart::At(end - distance)
+    Ok(end - distance)
 }
 
 // At most 96 bytes back, and no further than the message's first byte.
 fn is_near(distance: usize, end: usize) -> bool
     ensures { result ≡ (leb distance longest_text && leb distance end) }
 {
-    if LONGEST_TEXT < distance {
-        return false;
-    }
-    distance <= end
+    distance <= LONGEST_TEXT && distance <= end
 }
 
 // The bytes from there to the trailer.
@@ -71,5 +64,5 @@ pub fn text_part(message: &[u8], start: usize) -> &[u8]
 fn number(high: u8, low: u8) -> usize
     ensures { result ≡ 256 * high + low }
 {
-    256 * (high as usize) + low as usize
+    usize::from(u16::from_be_bytes([high, low]))
 }

@@ -8,9 +8,7 @@ ghost use Rattle.number_text.specs.Numbers.{decimal_of, time_bytes, longest_numb
 
 use decimal::{digit_count, write_digits};
 
-// The ordinal of the time 0.
-const ZERO: u64 = 0x8000_0000_0000_0000;
-
+#[tactic(auto, using(crate::proofs::Bytes::text_whole))]
 pub fn put_bytes(out: &mut [u8], at: usize, text: &[u8]) -> usize
     requires { at + length text.now ≤ length out.old }
     ensures { Written text.now result at out.old out.new }
@@ -25,14 +23,12 @@ pub fn put_front(out: &mut [u8], at: usize, text: &[u8], n: usize) -> usize
     ensures written { Written (take n text.now) result at out.old out.new }
     ensures value { result ≡ at + n }
 {
-    let mut i = 0;
-    while i < n {
-        out[at + i] = text[i];
-        i += 1;
-    }
-    at + i
+    let end = at + n;
+    out[at..end].copy_from_slice(&text[..n]);
+    end
 }
 
+#[tactic(auto, using(crate::proofs::Bytes::byte_put))]
 pub fn put_byte(out: &mut [u8], at: usize, byte: u8) -> usize
     requires { at < length out.old }
     ensures written { Written (byte ∷ []) result at out.old out.new }
@@ -57,15 +53,16 @@ pub fn put_number(out: &mut [u8], at: usize, number: u64, after: u8) -> usize
 }
 
 // A time and one byte after it.
+#[tactic(auto, using(crate::proofs::Bytes::half_digits))]
 pub fn put_time(out: &mut [u8], at: usize, time: i64, after: u8) -> usize
     requires { at + longest_number + 1 < length out.old }
     ensures written { Written (time_bytes time ++ (after ∷ [])) result at out.old out.new }
     ensures upper_bound { result ≤ at + longest_number + 1 }
 {
-    let ordinal = signed::ordinal(time);
-    if ordinal < ZERO {
-        let place = put_bytes(out, at, b"-");
-        return put_number(out, place, ZERO - ordinal, after);
+    let magnitude = time.unsigned_abs();
+    if time < 0 {
+        let place = put_byte(out, at, b'-');
+        return put_number(out, place, magnitude, after);
     }
-    put_number(out, at, ordinal - ZERO, after)
+    put_number(out, at, magnitude, after)
 }

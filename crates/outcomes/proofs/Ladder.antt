@@ -6,8 +6,7 @@ use mathlib.Core.List.{List}
 use mathlib.Core.Option.{Option, none, some}
 use Rattle.base.specs.Scans.{among}
 use Rattle.rules.specs.declared.Layout.{Layout}
-use Rattle.rules.specs.declared.Refusal.{Refusal}
-use Rattle.rules.specs.Answer.{Answer, answer, refused, refuse, numbered, placed, unless, unless_at, and_then}
+use Rattle.rules.specs.Answer.{Answer, answer, refused, refuse, numbered, placed, unless, unless_at, and_then, Numbered}
 use Rattle.rules.specs.Partitions.{Partitions}
 use Rattle.rules.specs.Segments.{Segments}
 use Rattle.rules.specs.Accepted.{accepted}
@@ -18,7 +17,7 @@ module _ {A : Type 0} {places : ℕ → Bool} {ks : List ℕ} where
   pub answers : (x : A) → OnlyRefuses places ks (answer x)
   answers x r e = absurd (not_answer (sym e))
 
-  refuses : (r : Refusal) → OneOf places ks r → OnlyRefuses {A = A} places ks (refused r)
+  refuses : (r : Numbered) → OneOf places ks r → OnlyRefuses {A = A} places ks (refused r)
   refuses r w q e = let same : r ≡ q = cc in subst (OneOf places ks) same w
 
   pub last_rung : (n : ℕ) → among n ks ≡ true → places n ≡ false → OnlyRefuses {A = A} places ks (refuse n)

@@ -1,8 +1,7 @@
 -- Each refusal of each set is given by some input, with its place where it has one.
 use Rattle.std.specs.Prelude.{ℕ, ◌≡◌, refl, true, false, List, [], ◌∷◌, ◌++◌, map, pos, negsuc, replicate}
 use Rattle.base.specs.Scans.{among}
-use Rattle.rules.specs.declared.Refusal.{Refusal}
-use Rattle.rules.specs.Answer.{Answer, refused, numbered, placed}
+use Rattle.rules.specs.Answer.{Answer, refused, numbered, placed, Numbered}
 use Rattle.rules.specs.Segments.{Segments, segments}
 use Rattle.rules.specs.Text.{read_text}
 use Rattle.rules.specs.Stamp.{read_stamp}
@@ -38,8 +37,8 @@ unfoldable pub message : ℕ → List ℕ → List ℕ
 message n s = 7 ∷ s ++ (0 ∷ n ∷ [])
 
 -- these answers are the refusals rs, whose numbers are the set ks
-abbrev pub Given : {A : Type 0} → List (Answer A) → List Refusal → List ℕ → Type 0
-Given answers rs ks = (answers ≡ map refused rs) × (map (λ (r : Refusal). r.number) rs ≡ ks)
+abbrev pub Given : {A : Type 0} → List (Answer A) → List Numbered → List ℕ → Type 0
+Given answers rs ks = (answers ≡ map refused rs) × (map (λ (r : Numbered). r.number) rs ≡ ks)
 
 pub refusals_given :
     Given

@@ -1,13 +1,10 @@
 -- The exact set of refusals that each call can give, and which of them have a place. proofs/Refusals.antt shows that it gives no other,
 -- Given.antt that it gives each; for the double form, whose one refusal is 15, cases of rules' DoubleExamples give it.
-use Rattle.std.specs.Prelude.{ℕ, ◌≡◌, Bool, true, false, List, [], ◌∷◌, ℤ, Float}
+use Rattle.std.specs.Prelude.{ℕ, ◌≡◌, Bool, true, false, List, [], ◌∷◌, ℤ, Float, Option, Some, None}
 use Rattle.base.specs.Scans.{among}
 use Rattle.rules.specs.declared.Layout.{Layout}
 use Rattle.rules.specs.declared.DoubleSegment.{DoubleSegment}
-use Rattle.rules.specs.declared.Place.{Place}
-use Rattle.rules.specs.declared.Place.TheVariants as Places
-use Rattle.rules.specs.declared.Refusal.{Refusal}
-use Rattle.rules.specs.Answer.{Answer, refused}
+use Rattle.rules.specs.Answer.{Answer, refused, Numbered}
 use Rattle.rules.specs.Partitions.{Partitions}
 use Rattle.rules.specs.Segments.{Segments}
 use Rattle.rules.specs.Text.{read_text}
@@ -66,18 +63,18 @@ has_place k = among k (2 ∷ 3 ∷ 5 ∷ 7 ∷ 8 ∷ 9 ∷ [])
 unfoldable pub no_place : ℕ → Bool
 no_place k = false
 
-abbrev pub is_at : Place → Bool
-is_at Places.None = false
-is_at (Places.At i) = true
+abbrev pub is_at : Option ℕ → Bool
+is_at None = false
+is_at (Some i) = true
 
 -- its number is one of ks, and it has a place exactly where `places` says so of its number
-pub record OneOf (places : ℕ → Bool) (ks : List ℕ) (r : Refusal) : Type 0 where
+pub record OneOf (places : ℕ → Bool) (ks : List ℕ) (r : Numbered) : Type 0 where
   pub number : among r.number ks ≡ true
   pub place : is_at r.place ≡ places r.number
 
 -- every refusal of a call is such a one
 abbrev pub OnlyRefuses : {A : Type 0} → (ℕ → Bool) → List ℕ → Answer A → Type 0
-OnlyRefuses places ks a = (r : Refusal) → a ≡ refused r → OneOf places ks r
+OnlyRefuses places ks a = (r : Numbered) → a ≡ refused r → OneOf places ks r
 
 pub record Refusals : Type 0 where
   pub text : (l : Layout) (s : List ℕ) → OnlyRefuses has_place text_refusals (read_text l s)

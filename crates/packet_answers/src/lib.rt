@@ -4,7 +4,7 @@
 
 ghost use Rattle.put.specs.Places.{Put};
 
-use packet_rules::{Packet, PacketAnswer, PacketHeader, TimeOctets};
+use packet_rules::{Packet, PacketHeader, TimeOctets};
 use rules::Refusal;
 
 mod sum;
@@ -14,12 +14,12 @@ const LINE_END: u8 = b'\n';
 const BLANK: u8 = b' ';
 
 // The header's fields, the numbers of octets, the place of the data, and both counts.
-pub fn put_packet(out: &mut [u8], at: usize, answer: PacketAnswer) -> usize
+pub fn put_packet(out: &mut [u8], at: usize, answer: Result<Packet, Refusal>) -> usize
     ensures { Put at out.old result }
 {
     match answer {
-        PacketAnswer::Read(packet) => put_read(out, at, packet),
-        PacketAnswer::Refused(refusal) => put_refused(out, at, refusal),
+        Ok(packet) => put_read(out, at, packet),
+        Err(refusal) => put_refused(out, at, refusal),
     }
 }
 
@@ -62,17 +62,17 @@ fn put_header(out: &mut [u8], at: usize, header: PacketHeader) -> usize
     ensures { Put at out.old result }
 {
     let place = put::text(out, at, b"ok");
-    let place = put_word(out, place, header.kind as u64);
-    let place = put_word(out, place, header.apid as u64);
-    let place = put_word(out, place, header.flags as u64);
-    put_word(out, place, header.sequence as u64)
+    let place = put_word(out, place, u64::from(header.kind));
+    let place = put_word(out, place, u64::from(header.apid));
+    let place = put_word(out, place, u64::from(header.flags));
+    put_word(out, place, u64::from(header.sequence))
 }
 
 fn put_octets(out: &mut [u8], at: usize, octets: TimeOctets) -> usize
     ensures { Put at out.old result }
 {
-    let place = put_word(out, at, octets.coarse as u64);
-    put_word(out, place, octets.fine as u64)
+    let place = put_word(out, at, u64::from(octets.coarse));
+    put_word(out, place, u64::from(octets.fine))
 }
 
 // The length and the sum of bytes, a blank before the one and a mark before the other.
@@ -95,7 +95,5 @@ fn put_word(out: &mut [u8], at: usize, number: u64) -> usize
 fn put_sum(out: &mut [u8], at: usize, bytes: &[u8]) -> usize
     ensures { Put at out.old result }
 {
-    let mut digits = [0u8; 16];
-    let n = io::hex(sum::adler(bytes), 8, &mut digits);
-    put::text(out, at, &digits[..n])
+    put::hexadecimal(out, at, sum::adler(bytes), 8)
 }

@@ -54,15 +54,7 @@ fn write_front(
     ensures { Written ((low_octets 2 identification ++ low_octets 2 control) ++ (low_octets 2 length ++ (p ∷ []))) end result buffer.old buffer.new }
 {
     let middle = write_length(length, p, end, buffer);
-    write_words(identification, control, middle, buffer)
-}
-
-fn write_words(first: u64, second: u64, end: usize, buffer: &mut [u8]) -> usize
-    requires { Room (low_octets 2 first ++ low_octets 2 second) end buffer.old }
-    ensures { Written (low_octets 2 first ++ low_octets 2 second) end result buffer.old buffer.new }
-{
-    let middle = write_octets(second, 2, end, buffer);
-    write_octets(first, 2, middle, buffer)
+    write_pair(identification, 2, control, 2, middle, buffer)
 }
 
 fn write_length(length: u64, p: u8, end: usize, buffer: &mut [u8]) -> usize
@@ -87,22 +79,16 @@ fn write_data(
     ensures { Written ((low_octets coarse units ++ low_octets fine count) ++ payload.now) end result buffer.old buffer.new }
 {
     let middle = write_part(payload, end, buffer);
-    write_time(units, coarse, count, fine, middle, buffer)
+    write_pair(units, coarse, count, fine, middle, buffer)
 }
 
-fn write_time(
-    units: u64,
-    coarse: usize,
-    count: u64,
-    fine: usize,
-    end: usize,
-    buffer: &mut [u8],
-) -> usize
-    requires { Room (low_octets coarse units ++ low_octets fine count) end buffer.old }
-    ensures { Written (low_octets coarse units ++ low_octets fine count) end result buffer.old buffer.new }
+// Two numbers, each with so many octets.
+fn write_pair(first: u64, n: usize, second: u64, m: usize, end: usize, buffer: &mut [u8]) -> usize
+    requires { Room (low_octets n first ++ low_octets m second) end buffer.old }
+    ensures { Written (low_octets n first ++ low_octets m second) end result buffer.old buffer.new }
 {
-    let middle = write_octets(count, fine, end, buffer);
-    write_octets(units, coarse, middle, buffer)
+    let middle = write_octets(second, m, end, buffer);
+    write_octets(first, n, middle, buffer)
 }
 
 // The first word: version 0, with a secondary header.

@@ -1,4 +1,7 @@
 -- What a caller has of an accepted clock, and of a refused one.
+use Rattle.rules.specs.declared.refusal.Refusal.{Refusal}
+use Rattle.std.specs.Prelude.{Result, Ok, Err}
+use Rattle.layouts.specs.declared.Measured.{Measured}
 use Prim.Native.Nat.{ℕ, ◌≤◌}
 use mathlib.Core.Path.{◌≡◌, sym}
 use mathlib.Core.List.{List, [], ◌∷◌}
@@ -8,19 +11,15 @@ use native.Mathlib.Omega.{arith}
 use borrow.Author.Tests.{eq-eqb, ne_eqb, eqb-true}
 use Rattle.base.specs.Scans.{product}
 use Rattle.rules.specs.declared.Layout.{Layout}
-use Rattle.rules.specs.declared.Refusal.{Refusal}
-use Rattle.rules.specs.Answer.{Answer, answer, refused, refuse, unless, and_then}
+use Rattle.rules.specs.Answer.{Answer, answer, refused, refuse, unless, and_then, as_numbered, answer_of}
 use Rattle.rules.specs.Limits.{largest_msf}
 use Rattle.rules.specs.Layout.{layout_ok, product_of, msf_of}
 use Rattle.rules.specs.Partitions.{Partitions, partitions_fault}
 use Rattle.rules.specs.Accepted.{accepted_stamps}
 use Rattle.rules.proofs.Answers.{unless-test, unless-rest}
-use Rattle.layouts.specs.declared.MeasureAnswer.{MeasureAnswer}
-use Rattle.layouts.specs.Measure.{measure_answer, measure_of}
+use Rattle.layouts.specs.Measure.{measure_of}
 use Rattle.tables.specs.declared.Basis.{Basis}
-use Rattle.tables.specs.declared.Acceptance.{Acceptance}
-use Rattle.tables.specs.declared.Acceptance.TheVariants.{Accepted, Refused}
-use Rattle.tables.specs.Accept.{acceptance, stamps_basis}
+use Rattle.tables.specs.Accept.{stamps_basis}
 use Rattle.tables.proofs.Accepted.{found, facts_behind, behind, stamps_same}
 use Rattle.tables.proofs.Guards.{passed, refused_same, refused_same_at}
 use Rattle.packet_rules.specs.Read.{accepted_clock}
@@ -32,7 +31,7 @@ module _ (l : Layout) (p : Partitions) where
   unfolding clock_basis unless
   not_two h = rw (ne_eqb l.n 2 h)
 
-  pub two_fields : l.n ≡ 2 → (m : MeasureAnswer) → measure_answer m ≡ measure_of l → (r : Acceptance) → acceptance r ≡ and_then (measure_answer m) (stamps_basis p) → acceptance r ≡ clock_basis l p
+  pub two_fields : l.n ≡ 2 → (m : Result Measured Refusal) → answer_of m ≡ measure_of l → (r : Result Basis Refusal) → answer_of r ≡ and_then (answer_of m) (stamps_basis p) → answer_of r ≡ clock_basis l p
   unfolding clock_basis
   two_fields h m w r e = passed 1 (eqb l.n 2) _ _ (eq-eqb l.n 2 h) (stamps_same l p m w r e)
 
@@ -44,15 +43,15 @@ second_small n (x ∷ []) e h = omega arith
 second_small n (x ∷ y ∷ ms) e h = let q = rw e at h in omega (arith, q)
 
 -- for a caller of `accept_clock`
-module _ (l : Layout) (p : Partitions) (r : Acceptance) (e : acceptance r ≡ clock_basis l p) where
-  pub clock_refused : {A : Type 0} (k : Refusal) (a : Answer A) → r ≡ Refused k → refused k ≡ accepted_clock l p a
+module _ (l : Layout) (p : Partitions) (r : Result Basis Refusal) (e : answer_of r ≡ clock_basis l p) where
+  pub clock_refused : {A : Type 0} (k : Refusal) (a : Answer A) → r ≡ Err k → refused (as_numbered k) ≡ accepted_clock l p a
   unfolding clock_basis
   clock_refused k a h =
-      refused_same k 1 (eqb l.n 2) _ _ (rw h at (sym e))
-      (λ x. refused_same k 1 (layout_ok l) _ _ x
-      (λ y. refused_same_at k 2 (partitions_fault (product_of l) p) (answer (found l p)) a y (λ z. cc)))
+      refused_same (as_numbered k) 1 (eqb l.n 2) _ _ (rw h at (sym e))
+      (λ x. refused_same (as_numbered k) 1 (layout_ok l) _ _ x
+      (λ y. refused_same_at (as_numbered k) 2 (partitions_fault (product_of l) p) (answer (found l p)) a y (λ z. cc)))
 
-  module _ (b : Basis) (h : r ≡ Accepted b) where
+  module _ (b : Basis) (h : r ≡ Ok b) where
     whole : unless 1 (eqb l.n 2) (accepted_stamps l p (answer (found l p))) ≡ answer b
     unfolding clock_basis
     whole = rw h at (sym e)

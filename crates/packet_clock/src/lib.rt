@@ -3,18 +3,18 @@
 
 ghost use Rattle.std.specs.Prelude.{◌≡◌};
 ghost use Rattle.rules.specs.Partitions.{partitions};
-ghost use Rattle.tables.specs.Accept.{acceptance};
 ghost use Rattle.packet_clock.specs.Clock.{clock_basis};
+ghost use Rattle.rules.specs.Answer.{answer_of};
 
 use layouts::measure;
-use rules::Layout;
-use tables::{Acceptance, accept_stamps};
+use rules::{Layout, Refusal};
+use tables::{Basis, accept_stamps};
 
-pub fn accept_clock(layout: Layout, starts: &[u64], ends: &[u64]) -> Acceptance
-    ensures { acceptance result ≡ clock_basis layout (partitions starts.now ends.now) }
+pub fn accept_clock(layout: Layout, starts: &[u64], ends: &[u64]) -> Result<Basis, Refusal>
+    ensures { answer_of result ≡ clock_basis layout (partitions starts.now ends.now) }
 {
     if layout.n != 2 {
-        return Acceptance::Refused(refusals::LAYOUT);
+        return Err(Refusal::Layout);
     }
     accept_stamps(measure(layout), starts, ends)
 }

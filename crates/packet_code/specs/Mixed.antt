@@ -1,9 +1,6 @@
 -- What is made of a packet's answer: one number, into which all of it goes.
-use Rattle.std.specs.Prelude.{ℕ, ◌+◌, ◌%◌, ◌^◌}
-use Rattle.rules.specs.declared.Place.{Place}
-use Rattle.rules.specs.declared.Place.TheVariants as Places
-use Rattle.rules.specs.declared.Refusal.{Refusal}
-use Rattle.rules.specs.Answer.{Answer, answer, refused}
+use Rattle.std.specs.Prelude.{ℕ, ◌+◌, ◌%◌, ◌^◌, Option, Some, None}
+use Rattle.rules.specs.Answer.{Answer, answer, refused, Numbered}
 use Rattle.packet_rules.specs.declared.Packet.{Packet}
 
 -- twice x and y, modulo 2^64
@@ -14,11 +11,11 @@ unfoldable pub mixed_packet : Packet → ℕ
 mixed_packet k =
     with (with (with (with (with (with (with (with (with 0 k.header.kind) k.header.apid) k.header.flags) k.header.sequence) k.octets.coarse) k.octets.fine) k.payload_at) k.count) k.encoded
 
-abbrev pub with_place : ℕ → Place → ℕ
-with_place n Places.None = n
-with_place n (Places.At i) = with n i
+abbrev pub with_place : ℕ → Option ℕ → ℕ
+with_place n None = n
+with_place n (Some i) = with n i
 
-abbrev pub mixed_refusal : Refusal → ℕ
+abbrev pub mixed_refusal : Numbered → ℕ
 mixed_refusal k = with_place k.number k.place
 
 abbrev pub mixed : Answer Packet → ℕ

@@ -2,13 +2,14 @@
 #![tactic(auto)]
 
 ghost use Rattle.std.specs.Prelude.{◌≡◌, [], ◌∷◌};
+ghost use Rattle.rules.specs.Answer.{as_numbered};
 ghost use Rattle.rules.specs.Partitions.{partitions};
 ghost use Rattle.packet_rules.specs.Read.{read_packet};
 ghost use Rattle.packet_code.specs.Mixed.{with, mixed_packet, mixed_refusal, mixed};
 
 use packet_read::read_packet;
-use packet_rules::{Packet, PacketAnswer};
-use rules::{Layout, Place, Refusal};
+use packet_rules::Packet;
+use rules::{Layout, Refusal};
 
 // Everything that reading gives goes into the result, so that the compiler keeps all of it.
 #[unsafe(no_mangle)]
@@ -30,37 +31,36 @@ pub extern "C" fn packet_code_read(
         delimiter,
     };
     match read_packet(layout, starts, ends, packet) {
-        PacketAnswer::Read(k) => mix_packet(k),
-        PacketAnswer::Refused(k) => mix_refusal(k),
+        Ok(k) => mix_packet(k),
+        Err(k) => mix_refusal(k),
     }
 }
 
+#[tactic(auto, unfolding(crate::specs::Mixed::mixed_packet))]
 fn mix_packet(packet: Packet) -> u64
     ensures { result ≡ mixed_packet packet }
 {
-    let header = packet.header;
-    let octets = packet.octets;
-    let x = mix(0, header.kind as u64);
-    let x = mix(x, header.apid as u64);
-    let x = mix(x, header.flags as u64);
-    let x = mix(x, header.sequence as u64);
-    let x = mix(x, octets.coarse as u64);
-    let x = mix(x, octets.fine as u64);
+    let x = mix(0, packet.header.kind as u64);
+    let x = mix(x, packet.header.apid as u64);
+    let x = mix(x, packet.header.flags as u64);
+    let x = mix(x, packet.header.sequence as u64);
+    let x = mix(x, packet.octets.coarse as u64);
+    let x = mix(x, packet.octets.fine as u64);
     let x = mix(x, packet.payload_at as u64);
     let x = mix(x, packet.count);
     mix(x, packet.encoded)
 }
 
 fn mix_refusal(refusal: Refusal) -> u64
-    ensures { result ≡ mixed_refusal refusal }
+    ensures { result ≡ mixed_refusal (as_numbered refusal) }
 {
-    let place = refusal.place;
-    match place {
-        Place::At(i) => mix(refusal.number, i as u64),
-        Place::None => refusal.number,
+    match refusal.place() {
+        Some(i) => mix(refusal.number(), i as u64),
+        None => refusal.number(),
     }
 }
 
+#[tactic(auto, unfolding(crate::specs::Mixed::with))]
 fn mix(x: u64, y: u64) -> u64
     ensures { result ≡ with x y }
 {

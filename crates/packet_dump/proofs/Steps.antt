@@ -10,8 +10,7 @@ use borrow.Author.Tests.{leb-true, leb-false, eqb-true, eqb-false}
 use native.Mathlib.Omega.{arith}
 use Rattle.base.proofs.Tests.{by_test}
 use Rattle.base.proofs.Lists.{all_append, all_get_d}
-use Rattle.rules.specs.declared.Refusal.{Refusal}
-use Rattle.rules.specs.Answer.{Answer, answer, refused}
+use Rattle.rules.specs.Answer.{Answer, answer, refused, Numbered}
 use Rattle.rules.specs.Print.{buffer_after}
 use Rattle.rules.proofs.Answers.{payload, unless-test, unless-rest}
 use Rattle.packet_rules.specs.Header.{header_octets, packet_length}
@@ -90,7 +89,7 @@ module _ (b : List ℕ) (tail : ℕ) (chunk : List ℕ) (at : ℕ) where
   unfolding tail_buffer_after written_by buffer_after
   after_tail n h = rw h
 
-  pub after-refused : (k : Refusal) → next_packet b tail chunk at ≡ refused k → tail_buffer_after b tail chunk at ≡ b
+  pub after-refused : (k : Numbered) → next_packet b tail chunk at ≡ refused k → tail_buffer_after b tail chunk at ≡ b
   unfolding tail_buffer_after written_by buffer_after
   after-refused k h = rw h
 

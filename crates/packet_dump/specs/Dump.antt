@@ -1,8 +1,7 @@
 -- What is promised of walking a dump.
 use Rattle.std.specs.Prelude.{ℕ, ◌≤◌, ◌<◌, ◌≡◌, true, false, length, take, drop}
 use mathlib.Core.List.{List, flatten}
-use Rattle.rules.specs.declared.Refusal.{Refusal}
-use Rattle.rules.specs.Answer.{Answer, answer, refused}
+use Rattle.rules.specs.Answer.{Answer, answer, refused, Numbered}
 use Rattle.packet_rules.specs.Walk.{tail_room, is_whole, left, in_chunk, in_buffer, only_tail, found_in, next_packet, tail_buffer_after}
 use Rattle.packet_rules.specs.Octets.{octets_only}
 use Rattle.packet_dump.specs.Packets.{packets_in, rest_in, Cuts}
@@ -62,4 +61,4 @@ pub record Buffers : Type 0 where
       → Front n (take n (left buffer tail chunk at)) buffer (tail_buffer_after buffer tail chunk at)
   pub only_tail_lem : (buffer : List ℕ) (tail : ℕ) (chunk : List ℕ) (at n : ℕ) → next_packet buffer tail chunk at ≡ answer (only_tail n)
       → Front n (left buffer tail chunk at) buffer (tail_buffer_after buffer tail chunk at)
-  pub refused_leaves : (buffer : List ℕ) (tail : ℕ) (chunk : List ℕ) (at : ℕ) (k : Refusal) → next_packet buffer tail chunk at ≡ refused k → tail_buffer_after buffer tail chunk at ≡ buffer
+  pub refused_leaves : (buffer : List ℕ) (tail : ℕ) (chunk : List ℕ) (at : ℕ) (k : Numbered) → next_packet buffer tail chunk at ≡ refused k → tail_buffer_after buffer tail chunk at ≡ buffer

@@ -1,11 +1,11 @@
 -- Octets read as a number, bits of a word, and a number without its low octets.
-use Prim.Native.Nat.{ℕ, suc, ◌+◌, ◌-◌, ◌*◌, ◌/◌, ◌%◌, ◌^◌, ◌≤◌, ◌<◌}
-use mathlib.Core.Path.{◌≡◌, sym}
+use Prim.Native.Nat.{ℕ, zero, suc, ◌+◌, ◌-◌, ◌*◌, ◌/◌, ◌%◌, ◌^◌, ◌≤◌, ◌<◌}
+use mathlib.Core.Path.{◌≡◌, refl, sym}
 use mathlib.Core.List.{List}
 use lib.ListN.{length, get_or, take, drop}
 use lib.Bits.{and_mask, bit_and}
 use lib.Pow.{pow_pos, pow-lt, pow-add}
-use mir.Syntax.{w64}
+use mir.Syntax.{w8, w64}
 use mir.Val.{Fits}
 use native.Mathlib.Nat.{mod-lt, mod-eq_of_lt, pow-le-pow_right}
 use native.Mathlib.Omega.{arith}
@@ -54,16 +54,16 @@ module _ (s : List ℕ) (at n : ℕ) where
     pub times_fits : n ≤ 4 → i < n → Fits w64 (256 * x)
     times_fits h k = record { fits = omega (arith, small_enough h k) }
 
-    pub sum_fits : n ≤ 4 → i < n → (b : ℕ) → b < 256 → Fits w64 (256 * x + b)
-    sum_fits h k b small = record { fits = omega (arith, small_enough h k) }
+    pub sum_fits : n ≤ 4 → i < n → ((j : ℕ) → Fits w8 (get_or s j 0)) → (b : ℕ) → b ≡ get_or s (at + i) 0 → Fits w64 (256 * x + b)
+    sum_fits h k octets b e = record { fits = omega (arith, small_enough h k, octets (at + i)) }
 
-    pub read_next : at + n ≤ length s → i < n → (b : ℕ) → b ≡ get_or s (at + i) 0 → b < 256 → Read s at n (i + 1) (256 * x + b)
+    pub read_next : at + n ≤ length s → i < n → ((j : ℕ) → Fits w8 (get_or s j 0)) → (b : ℕ) → b ≡ get_or s (at + i) 0 → Read s at n (i + 1) (256 * x + b)
     unfolding big_from
-    read_next h k b e small =
+    read_next h k octets b e =
         record {
           few = omega arith;
           rest = rw (e, next) (rw (left, drop_next s (at + i) 0 (omega arith)) at r.rest);
-          small = omega (arith, r.small, pow-add 256 i 1);
+          small = omega (arith, r.small, pow-add 256 i 1, octets (at + i));
         }
       where
         left : n - i ≡ suc (n - (i + 1))
@@ -80,18 +80,11 @@ module _ (s : List ℕ) (at n : ℕ) where
     read_small h = let all : n ≡ i = omega (arith, r.few) in rw all r.small
 
 -- a number without its n low octets
-module _ (x n : ℕ) where
-  pub above_0 : n ≡ 0 → x ≡ x / 256 ^ n
-  above_0 h = rw h (omega arith)
+octet_power : (n : ℕ) → 2 ^ (8 * n) ≡ 256 ^ n
+octet_power zero = refl
+octet_power (suc n) =
+    let e : 8 * suc n ≡ 8 + 8 * n = omega arith in
+    rw (e, pow-add 2 8 (8 * n), octet_power n) (omega arith)
 
-  pub above_1 : n ≡ 1 → x / 256 ≡ x / 256 ^ n
-  above_1 h = rw h
-
-  pub above_2 : n ≡ 2 → x / 65_536 ≡ x / 256 ^ n
-  above_2 h = rw h
-
-  pub above_3 : n ≡ 3 → x / 16_777_216 ≡ x / 256 ^ n
-  above_3 h = rw h
-
-  pub above_4 : n ≡ 4 → x / 4_294_967_296 ≡ x / 256 ^ n
-  above_4 h = rw h
+pub above_is : (x n k : ℕ) → k ≡ n → x / 2 ^ (8 * k) ≡ x / 256 ^ n
+above_is x n k e = rw (e, octet_power n)

@@ -1,10 +1,9 @@
 -- The low octets of a number, written from the right, and a part copied.
-use Prim.Native.Nat.{ℕ, zero, suc, ◌+◌, ◌-◌, ◌/◌, ◌%◌, ◌≤◌, ◌<◌}
-use mathlib.Core.Path.{◌≡◌, refl, ◌∙◌}
-use mathlib.Core.List.{List, append_assoc}
-use lib.ListN.{length, get_or, take, drop, set, length-append}
-use lib.Seq.{paste, paste-suc, take-length}
-use native.Mathlib.Numerals.{add-one}
+use Prim.Native.Nat.{ℕ, zero, suc, ◌-◌, ◌/◌, ◌%◌, ◌≤◌, ◌<◌}
+use mathlib.Core.Path.{◌≡◌, refl}
+use mathlib.Core.List.{List, [], ◌++◌}
+use lib.ListN.{length, take, drop, set, length-append}
+use lib.Seq.{drop-drop}
 use native.Mathlib.Omega.{arith}
 use Rattle.decimal.specs.Writing.{put, Room, Written}
 use Rattle.decimal.proofs.RightToLeft.{Left, left_all, left_byte, left_nothing}
@@ -30,17 +29,24 @@ module _ (s : List ℕ) (x start end at : ℕ) (entry buffer : List ℕ) (l : Le
       let w : at - start ≡ suc (at - 1 - start) = omega arith in
       left_byte s (octets (at - 1 - start) (x / 256)) d end at entry buffer (rw (w, ← e) at l)
 
-  pub octets_done : at ≤ start → Written s end at entry buffer
-  unfolding octets
-  octets_done h = let w : at - start ≡ 0 = omega arith in left_nothing s end at entry buffer (rw w at l)
+-- all of them are written
+pub octets_done :
+    (n x rest end at : ℕ) (entry buffer : List ℕ)
+    → Room (octets n x) end entry
+    → Left (octets n x) (octets (at - (end - n)) rest) end at entry buffer
+    → at ≤ end - n
+    → Written (octets n x) end (end - n) entry buffer
+unfolding octets
+octets_done n x rest end at entry buffer r l h =
+    let w : at - (end - n) ≡ 0 = omega arith in
+    let t : Left (octets n x) [] end at entry buffer = rw w at l in
+    let start : at ≡ end - n = omega (arith, t.ends, octets_length n x, r.before) in
+    rw start at (left_nothing (octets n x) end at entry buffer t)
 
 -- a part copied to its place
 module _ (s : List ℕ) (end : ℕ) (b : List ℕ) (r : Room s end b) where
-  pub part_next : (l : List ℕ) (i : ℕ) → l ≡ paste b (end - length s) s i → i < length s → set l (end - length s + i) (get_or s i 0) ≡ paste b (end - length s) s (i + 1)
-  part_next l i e h = rw (e, add-one) (paste-suc b (end - length s) s i 0 (omega arith) h)
-
-  pub part_written : (l : List ℕ) (i : ℕ) → l ≡ paste b (end - length s) s i → i ≤ length s → length s ≤ i → Written s end (end - length s) b l
+  pub part_written : {ys : List ℕ} → ys ≡ s → Written s end (end - length s) b (take (end - length s) b ++ (ys ++ drop (end - (end - length s)) (drop (end - length s) b)))
   unfolding put
-  part_written l i e h k =
-      let all : i ≡ length s = omega arith in
-      record { ends = omega (arith, r.before); bytes = e ∙ rw (all, take-length s) (append_assoc (take (end - length s) b) s (drop (end - length s + length s) b)) }
+  part_written {ys} c =
+      let long : end - (end - length s) ≡ length s = omega (arith, r.before) in
+      record { ends = omega (arith, r.before); bytes = rw (c, long, drop-drop) }

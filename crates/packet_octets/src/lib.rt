@@ -21,7 +21,7 @@ pub fn word_at(s: &[u8], at: usize) -> u64
     ensures value { result ≡ word_at at s.now }
     ensures upper_bound { result < 2 ^ 16 }
 {
-    256 * as_word(s[at]) + as_word(s[at + 1])
+    u64::from(u16::from_be_bytes([s[at], s[at + 1]]))
 }
 
 // The number that `n` octets make from this place on, up to four of them.
@@ -31,39 +31,19 @@ pub fn number_at(s: &[u8], at: usize, n: usize) -> u64
     ensures upper_bound { result < 256 ^ n }
 {
     let mut x: u64 = 0;
-    let mut i = 0;
-    while i < n {
-        x = 256 * x + as_word(s[at + i]);
-        i += 1;
+    for i in 0..n {
+        x = 256 * x + u64::from(s[at + i]);
     }
     x
 }
 
-// An octet as a word.
-pub fn as_word(x: u8) -> u64
-    ensures { (result ≡ x) × (result < 256) }
-{
-    x as u64
-}
-
 // `x` without its `n` lowest octets; `n` is at most four.
+#[tactic(auto, using(crate::proofs::Numbers::above_is))]
 pub fn above(x: u64, n: u8) -> u64
     requires { n ≤ 4 }
     ensures { result ≡ x / 256 ^ n }
 {
-    if n == 0 {
-        return x;
-    }
-    if n == 1 {
-        return x >> 8;
-    }
-    if n == 2 {
-        return x >> 16;
-    }
-    if n == 3 {
-        return x >> 24;
-    }
-    x >> 32
+    x >> (8 * u32::from(n))
 }
 
 // Writes the `n` low octets of `x` so that they end at index `end`, and answers where they start.
@@ -73,19 +53,11 @@ pub fn write_octets(x: u64, n: usize, end: usize, buffer: &mut [u8]) -> usize
 {
     let start = end - n;
     let mut rest = x;
-    let mut at = end;
-    while start < at {
-        at -= 1;
-        buffer[at] = low_octet(rest);
-        rest = rest / 256;
+    for at in (start..end).rev() {
+        buffer[at] = (rest % 256) as u8;
+        rest /= 256;
     }
-    at
-}
-
-fn low_octet(x: u64) -> u8
-    ensures { result ≡ x % 256 }
-{
-    (x % 256) as u8
+    start
 }
 
 // Copies `part` so that it ends at index `end`, and answers where it starts.
@@ -94,10 +66,6 @@ pub fn write_part(part: &[u8], end: usize, buffer: &mut [u8]) -> usize
     ensures { Written part.now end result buffer.old buffer.new }
 {
     let start = end - part.len();
-    let mut i = 0;
-    while i < part.len() {
-        buffer[start + i] = part[i];
-        i += 1;
-    }
+    buffer[start..end].copy_from_slice(part);
     start
 }

@@ -7,7 +7,7 @@ ghost use Rattle.put.specs.Places.{Put};
 use packet_rules::{PacketHeader, TimeOctets};
 use rules::Layout;
 use script_names::{Numbers, PacketQuestion};
-use script_words::hex::{ByteWord, read_bytes};
+use script_words::hex::read_bytes;
 use script_words::numbers::{byte_of, lent_length, short_of};
 
 // The most bytes of a packet to read, or of data to write.
@@ -33,25 +33,18 @@ pub fn answer(
 {
     let mut bytes = [0u8; MOST_BYTES];
     match read_bytes(line, rest, &mut bytes) {
-        ByteWord::Length(n) => ask(
+        Some(n) => ask(
             question,
             numbers,
-            first_bytes(&bytes, n),
+            &bytes[..n],
             layout,
             starts,
             ends,
             out,
             place,
         ),
-        ByteWord::Bad => answers::put_bad(out, place),
+        None => answers::put_bad(out, place),
     }
-}
-
-fn first_bytes(bytes: &[u8; MOST_BYTES], n: usize) -> &[u8]
-    requires { n ≤ 65600 }
-{
-    let all = &bytes[..];
-    &all[0..n]
 }
 
 // The bytes are a packet, or the data of one.
@@ -90,7 +83,7 @@ fn write_packet(
 {
     let size = lent_length(numbers[8], MOST_LENT as u64);
     let mut buffer = [byte_of(numbers[7]); MOST_LENT];
-    let lent = &mut buffer[0..size];
+    let lent = &mut buffer[..size];
     let answer = packet_write::write_packet(
         layout,
         starts,

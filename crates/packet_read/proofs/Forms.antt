@@ -1,47 +1,27 @@
 -- The form of a packet: each way out of its check, and what a caller has of it.
+use Rattle.rules.specs.declared.refusal.Refusal.{Refusal}
+use Rattle.std.specs.Prelude.{Result, Ok, Err}
 use Prim.Native.Nat.{ℕ, ◌+◌, ◌≤◌, ◌<◌}
 use mathlib.Core.Path.{◌≡◌, refl, sym, ◌∙◌, ap}
-use mathlib.Core.Bool.{Bool, true, false, not, and-true}
+use mathlib.Core.Bool.{Bool, true, false, not}
 use mathlib.Core.List.{List, [], ◌∷◌}
 use lib.Dec.{leb, eqb}
 use lib.ListN.{length, get_or}
 use native.Mathlib.Omega.{arith}
 use borrow.Author.Tests.{eq-eqb, ne_eqb, le-leb, lt-leb, leb-true, not-true, not-false}
 use Rattle.base.specs.Scans.{all_of}
-use Rattle.rules.specs.declared.Refusal.{Refusal}
-use Rattle.rules.specs.Answer.{Answer, answer, refused, refuse, unless}
+use Rattle.rules.specs.Answer.{Answer, answer, refused, refuse, unless, as_numbered, answer_of}
 use Rattle.rules.proofs.Answers.{payload, not_answer, unless-test, unless-rest}
 use Rattle.tables.proofs.Guards.{passed, refused_same}
 use Rattle.packet_rules.specs.declared.TimeOctets.{TimeOctets}
 use Rattle.packet_rules.specs.Octets.{bits}
 use Rattle.packet_rules.specs.Header.{word_at, header_in, octets_in, agency_epoch, time_end, packet_length}
 use Rattle.packet_rules.specs.Read.{form_ok, accepted_packet}
-use Rattle.packet_read.specs.declared.Form.{Form}
-use Rattle.packet_read.specs.declared.Form.TheVariants as Forms
-use Rattle.packet_read.specs.Form.{form_answer, octets_by, TimeThere}
+use Rattle.packet_read.specs.Form.{octets_by, TimeThere}
 
 -- the four tests of the form, by the first word and the P-field
 abbrev pub form_tests : ℕ → ℕ → Bool
 form_tests w p = all_of (eqb (bits 13 3 w) 0 ∷ eqb (bits 11 1 w) 1 ∷ eqb (bits 7 1 p) 0 ∷ eqb (bits 4 3 p) agency_epoch ∷ [])
-
-module _ (w p a : ℕ) (ea : a ≡ bits 13 3 w) where
-  pub another_version : (a ≡ 0 → ⊥) → false ≡ form_tests w p
-  unfolding all_of
-  another_version h = rw (← ea, ne_eqb a 0 h)
-
-  module _ (ha : a ≡ 0) (b : ℕ) (eb : b ≡ bits 11 1 w) where
-    pub no_secondary : (b ≡ 1 → ⊥) → false ≡ form_tests w p
-    unfolding all_of
-    no_secondary h = rw (← ea, eq-eqb a 0 ha, ← eb, ne_eqb b 1 h)
-
-    module _ (hb : b ≡ 1) (d : ℕ) (ed : d ≡ bits 7 1 p) where
-      pub extended : (d ≡ 0 → ⊥) → false ≡ form_tests w p
-      unfolding all_of
-      extended h = rw (← ea, eq-eqb a 0 ha, ← eb, eq-eqb b 1 hb, ← ed, ne_eqb d 0 h)
-
-      pub by_code : d ≡ 0 → (c : ℕ) → c ≡ bits 4 3 p → eqb c 2 ≡ form_tests w p
-      unfolding all_of
-      by_code h c ec = rw (← ea, eq-eqb a 0 ha, ← eb, eq-eqb b 1 hb, ← ed, eq-eqb d 0 h, ← ec) (sym (and-true (eqb c 2)))
 
 -- the fields that are handed through
 module _ (s : List ℕ) (w v : ℕ) (ew : w ≡ word_at 0 s) (ev : v ≡ word_at 2 s) where
@@ -94,14 +74,14 @@ module _ (s : List ℕ) where
         time_within h = rw (long, form, not-false t n, le-leb (time_end (octets_in s)) (length s) (rw ends h), same)
 
 -- for a caller of `check_packet`
-module _ (s : List ℕ) (f : Form) (e : form_answer f ≡ checked s) where
-  pub form_refused : {A : Type 0} (k : Refusal) (a : Answer A) → f ≡ Forms.Refused k → refused k ≡ accepted_packet s a
+module _ (s : List ℕ) (f : Result TimeOctets Refusal) (e : answer_of f ≡ checked s) where
+  pub form_refused : {A : Type 0} (k : Refusal) (a : Answer A) → f ≡ Err k → refused (as_numbered k) ≡ accepted_packet s a
   unfolding accepted_packet
   form_refused k a h =
-      refused_same k 25 _ _ _ (rw h at (sym e))
-      (λ q. refused_same k 26 _ _ _ q (λ u. refused_same k 25 _ _ _ u (λ z. absurd (not_answer (sym z)))))
+      refused_same (as_numbered k) 25 _ _ _ (rw h at (sym e))
+      (λ q. refused_same (as_numbered k) 26 _ _ _ q (λ u. refused_same (as_numbered k) 25 _ _ _ u (λ z. absurd (not_answer (sym z)))))
 
-  module _ (o : TimeOctets) (h : f ≡ Forms.Octets o) where
+  module _ (o : TimeOctets) (h : f ≡ Ok o) where
     whole : checked s ≡ answer o
     whole = rw h at (sym e)
 

@@ -1,18 +1,11 @@
 -- What checking a packet's form answers, and what counting its time asks.
 use Rattle.std.specs.Prelude.{ℕ, ◌+◌, ◌≤◌, ◌<◌, ◌≡◌, List, length}
-use Rattle.rules.specs.Answer.{Answer, answer, refused}
 use Rattle.rules.specs.Limits.{largest_p}
 use Rattle.rules.specs.Partitions.{Partitions, partitions_in, end_of}
 use Rattle.encode.specs.Listed.{Listed}
 use Rattle.packet_rules.specs.declared.TimeOctets.{TimeOctets}
 use Rattle.packet_rules.specs.Octets.{bits}
 use Rattle.packet_rules.specs.Header.{most_coarse, most_fine, octets_in, time_end}
-use Rattle.packet_read.specs.declared.Form.{Form}
-use Rattle.packet_read.specs.declared.Form.TheVariants as Forms
-
-abbrev pub form_answer : Form → Answer TimeOctets
-form_answer (Forms.Octets o) = answer o
-form_answer (Forms.Refused k) = refused k
 
 -- how many octets the P-field p gives the time
 abbrev pub octets_by : ℕ → TimeOctets

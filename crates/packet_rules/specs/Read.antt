@@ -3,13 +3,11 @@ use Rattle.std.specs.Prelude.{ℕ, ◌+◌, ◌*◌, ◌^◌, Bool, List, [], �
 use Rattle.base.specs.Scans.{all_of}
 use Rattle.base.specs.Rounding.{round_down}
 use Rattle.rules.specs.declared.Layout.{Layout}
-use Rattle.rules.specs.Answer.{Answer, answer, refused, unless, and_then}
+use Rattle.rules.specs.Answer.{Answer, answer, unless, and_then}
 use Rattle.rules.specs.Partitions.{Partitions}
 use Rattle.rules.specs.Stamp.{encode_first}
 use Rattle.rules.specs.Accepted.{accepted_stamps}
 use Rattle.packet_rules.specs.declared.Packet.{Packet}
-use Rattle.packet_rules.specs.declared.PacketAnswer.{PacketAnswer}
-use Rattle.packet_rules.specs.declared.PacketAnswer.TheVariants as Packets
 use Rattle.packet_rules.specs.declared.TimeOctets.{TimeOctets}
 use Rattle.packet_rules.specs.Octets.{big}
 use Rattle.packet_rules.specs.Header.{version, secondary_flag, header_in, extension, time_code, octets_in, agency_epoch, time_start, time_end, packet_length}
@@ -50,8 +48,3 @@ packet_at p s c =
 -- The call.
 unfoldable pub read_packet : Layout → Partitions → List ℕ → Answer Packet
 read_packet l p s = accepted_packet s (accepted_clock l p (packet_at p s (ticks_in (second_modulus l) (octets_in s) s)))
-
--- The paper's number and value for each case of the code's answer.
-abbrev pub packet_answer : PacketAnswer → Answer Packet
-packet_answer (Packets.Read k) = answer k
-packet_answer (Packets.Refused k) = refused k

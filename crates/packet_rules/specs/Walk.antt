@@ -54,9 +54,8 @@ written_by s (refused k) = refused k
 unfoldable pub tail_buffer_after : List ℕ → ℕ → List ℕ → ℕ → List ℕ
 tail_buffer_after buffer tail chunk at = buffer_after (written_by (left buffer tail chunk at) (next_packet buffer tail chunk at)) buffer
 
--- The paper's number and values for each case of the code's answer.
-abbrev pub step_answer : WalkStep → Answer Found
-step_answer (Steps.InChunk s) = answer (in_chunk s.start s.end)
-step_answer (Steps.InBuffer j) = answer (in_buffer j.length j.at)
-step_answer (Steps.Tail n) = answer (only_tail n)
-step_answer (Steps.Refused k) = refused k
+-- What a step of the code finds.
+abbrev pub found_by : WalkStep → Found
+found_by (Steps.InChunk s) = in_chunk s.start s.end
+found_by (Steps.InBuffer j) = in_buffer j.length j.at
+found_by (Steps.Tail n) = only_tail n

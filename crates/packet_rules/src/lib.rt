@@ -1,11 +1,9 @@
 // The types that the definitions of satellite packets name.
 #![tactic(auto)]
 
-use rules::Refusal;
-
 // The fields of a packet's primary header that are handed through as they are. Its version, its secondary header flag and its
 // length follow from what the packet is.
-#[derive(Clone, Copy)]
+#[derive(Clone, Copy, Debug, PartialEq, Eq)]
 pub struct PacketHeader {
     // The packet type: 0 telemetry, 1 telecommand.
     pub kind: u8,
@@ -18,7 +16,7 @@ pub struct PacketHeader {
 }
 
 // How many octets a CUC time has: of whole units, and of fractions.
-#[derive(Clone, Copy)]
+#[derive(Clone, Copy, Debug, PartialEq, Eq)]
 pub struct TimeOctets {
     pub coarse: u8,
     pub fine: u8,
@@ -26,7 +24,7 @@ pub struct TimeOctets {
 
 // What reading a packet gives: the header's fields, the time's octets, where the data after the time begin (from the packet's
 // first byte), the clock's count, and its encoded count.
-#[derive(Clone, Copy)]
+#[derive(Clone, Copy, Debug, PartialEq, Eq)]
 pub struct Packet {
     pub header: PacketHeader,
     pub octets: TimeOctets,
@@ -35,14 +33,8 @@ pub struct Packet {
     pub encoded: u64,
 }
 
-#[derive(Clone, Copy)]
-pub enum PacketAnswer {
-    Read(Packet),
-    Refused(Refusal),
-}
-
 // What one step of a walk finds.
-#[derive(Clone, Copy)]
+#[derive(Clone, Copy, Debug, PartialEq, Eq)]
 pub enum WalkStep {
     // A whole packet in the chunk, from `start` up to `end`, where the walk goes on.
     InChunk(Span),
@@ -50,18 +42,17 @@ pub enum WalkStep {
     InBuffer(Joined),
     // No further whole packet: the chunk is used up, and so many bytes at the front of the tail buffer are the tail.
     Tail(usize),
-    Refused(Refusal),
 }
 
 // A part of a chunk.
-#[derive(Clone, Copy)]
+#[derive(Clone, Copy, Debug, PartialEq, Eq)]
 pub struct Span {
     pub start: usize,
     pub end: usize,
 }
 
 // A packet that was joined in the tail buffer, and where the chunk goes on behind it.
-#[derive(Clone, Copy)]
+#[derive(Clone, Copy, Debug, PartialEq, Eq)]
 pub struct Joined {
     pub length: usize,
     pub at: usize,

@@ -1,4 +1,6 @@
 -- What each way out of parsing a text or a stamp says.
+use Rattle.rules.specs.declared.refusal.Refusal.{Refusal}
+use Rattle.std.specs.Prelude.{Result, Ok, Err}
 use Prim.Native.Nat.{ℕ, ◌+◌, ◌-◌, ◌≤◌, ◌<◌, min}
 use mathlib.Core.Path.{◌≡◌, refl, sym, ap, subst, ◌∙◌}
 use mathlib.Core.Bool.{Bool, true, false, cond, ◌&&◌}
@@ -13,13 +15,10 @@ use Rattle.base.specs.Scans.{among}
 use Rattle.base.proofs.Tests.{by_test, not_both, and_both, and_first, and_second}
 use Rattle.base.proofs.Scans.{First, first_or}
 use Rattle.rules.specs.Limits.{longest_text}
-use Rattle.rules.specs.declared.Refusal.{Refusal}
 use Rattle.rules.specs.declared.Reading.{Reading}
-use Rattle.rules.specs.declared.ReadAnswer.{ReadAnswer}
-use Rattle.rules.specs.declared.ReadAnswer.TheVariants as Reads
-use Rattle.rules.specs.Answer.{Answer, answer, refused, refuse, placed, unless, unless_at, fails_at, and_then, read_answer}
+use Rattle.rules.specs.Answer.{Answer, answer, refused, refuse, placed, unless, unless_at, fails_at, and_then, Numbered, as_numbered, answer_of}
 use Rattle.rules.specs.Text.{not_allowed_from, fields_from, fields_count, bytes_count, parse_text}
-use Rattle.rules.specs.Stamp.{slash_in, front_number, Parsed, named, unnamed, parsed_at, parse_stamp}
+use Rattle.rules.specs.Stamp.{slash_in, front_number, named, unnamed, parsed_at, parse_stamp}
 use Rattle.fields.specs.declared.Pass.{Pass}
 use Rattle.fields.specs.declared.Scanned.{Scanned}
 use Rattle.fields.specs.Pass.{field_cap, begun, scan_from, front_scan_from, total}
@@ -27,27 +26,16 @@ use Rattle.fields.proofs.Over.{run}
 use Rattle.fields.proofs.Ladder.{counted}
 use Rattle.fields.proofs.Front.{Scan, scan_of, front_value}
 use Rattle.fields.proofs.Stops.{all_allowed, whole_pass, not_allowed}
-use Rattle.parse.specs.declared.ParsedStamp.{ParsedStamp}
-use Rattle.parse.specs.ParsedStamp.{parsed_answer, capped}
+use Rattle.parse.specs.ParsedStamp.{capped}
 use Rattle.parse.proofs.Slash.{slash, slash_first, slash_none, no_slash, no_slash_before, among_found, among_none}
-
--- a count is passed on with its number, and so is a refusal
-module _ (q : ReadAnswer) (f : Reading → Answer Parsed) where
-  pub parsed_count : (c : Reading) (a : Answer Parsed) → q ≡ Reads.Read c → a ≡ f c → a ≡ and_then (read_answer q) f
-  unfolding and_then
-  parsed_count c a e g = rw e g
-
-  pub parsed_refused : (k : Refusal) → q ≡ Reads.Refused k → refused k ≡ and_then (read_answer q) f
-  unfolding and_then
-  parsed_refused k e = rw e
 
 -- a text from the place i on
 module _ (ms os s : List ℕ) (i : ℕ) (b : Pass) (z : b ≡ begun) (w : Scanned) (e : w ≡ scan_from ms os (length s) b i (drop i s)) (l : i ≤ length s) where
-  pub count_other : (k : Refusal) → w.at < length s → k ≡ placed 5 w.at → refused k ≡ bytes_count ms os s i
+  pub count_other : (k : Numbered) → w.at < length s → k ≡ placed 5 w.at → refused k ≡ bytes_count ms os s i
   unfolding bytes_count unless_at
   count_other k h f = rw (not_allowed ms os (length s) s b i w e l h, f)
 
-  pub count_all : (r : ReadAnswer) → length os ≡ length ms → 1 ≤ length ms → length s ≤ w.at → read_answer r ≡ total ms os (length s) w.pass → read_answer r ≡ bytes_count ms os s i
+  pub count_all : (r : Result Reading Refusal) → length os ≡ length ms → 1 ≤ length ms → length s ≤ w.at → answer_of r ≡ total ms os (length s) w.pass → answer_of r ≡ bytes_count ms os s i
   unfolding bytes_count unless_at
   count_all r o n h c =
       rw (all_allowed ms os (length s) s b i w e l h)
@@ -107,7 +95,7 @@ module _ (ms os s : List ℕ) (short : length s ≤ longest_text) (w : Scanned) 
     pub front_small : (m : ℕ) → longest_text < m → w.at + 1 < m
     front_small m h = omega (arith, below)
 
-    pub front_bad : (k : Refusal) → w.pass.present ≡ false → k ≡ placed 5 w.at → refused k ≡ capped (parse_stamp ms os s)
+    pub front_bad : (k : Numbered) → w.pass.present ≡ false → k ≡ placed 5 w.at → refused k ≡ capped (parse_stamp ms os s)
     unfolding parsed_at unless_at fails_at capped
     front_bad k n f = rw (parse_short, slash_here, scanned.here, n, f)
 
@@ -118,39 +106,50 @@ module _ (ms os s : List ℕ) (short : length s ≤ longest_text) (w : Scanned) 
           ap (λ (q : Pass). q.value) scanned.passed
           ∙ front_value ms os (length s) some_fields (take w.at s) (ap (λ (q : Pass). q.field) (sym scanned.passed) ∙ scanned.field)
 
-      pub stamp_named : (k : ReadAnswer) (r : ParsedStamp) → w.pass.present ≡ true →
-          read_answer k ≡ bytes_count ms os s (w.at + 1) →
-          parsed_answer r ≡ and_then (read_answer k) (λ c. answer (named w.pass.value c)) →
-          parsed_answer r ≡ capped (parse_stamp ms os s)
-      unfolding parsed_at unless_at fails_at
-      stamp_named k r g c f =
-          rw (parse_short, slash_here, scanned.here, g)
-          (f
-          ∙ ap (λ x. and_then x (λ q. answer (named w.pass.value q))) c
-          ∙ ap (λ v. and_then (bytes_count ms os s (w.at + 1)) (λ q. answer (named v q))) number_is
-          ∙ sym (capped_named (front_number (take w.at s)) (bytes_count ms os s (w.at + 1))))
+      module _ (k : Result Reading Refusal) (g : w.pass.present ≡ true) (c : answer_of k ≡ bytes_count ms os s (w.at + 1)) where
+        after_named : and_then (answer_of k) (λ q. answer (named w.pass.value q)) ≡ capped (parse_stamp ms os s)
+        unfolding parsed_at unless_at fails_at
+        after_named =
+            rw (parse_short, slash_here, scanned.here, g)
+            (ap (λ x. and_then x (λ q. answer (named w.pass.value q))) c
+            ∙ ap (λ v. and_then (bytes_count ms os s (w.at + 1)) (λ q. answer (named v q))) number_is
+            ∙ sym (capped_named (front_number (take w.at s)) (bytes_count ms os s (w.at + 1))))
+
+        pub stamp_named : (q : Reading) → k ≡ Ok q → answer (named w.pass.value q) ≡ capped (parse_stamp ms os s)
+        unfolding and_then
+        stamp_named q h = rw h at after_named
+
+        pub named_refused : (n : Refusal) → k ≡ Err n → refused (as_numbered n) ≡ capped (parse_stamp ms os s)
+        unfolding and_then
+        named_refused n h = rw h at after_named
 
   -- no `/` ends it: the pass goes on
   module _ (n : t ≡ false) (v : Scanned) (g : v ≡ scan_from ms os (length s) w.pass w.at (drop w.at s)) where
     -- no `/`, and every byte is allowed
-    pub stamp_unnamed : (k : ReadAnswer) (r : ParsedStamp) → length os ≡ length ms → 1 ≤ length ms → length s ≤ v.at → read_answer k ≡ total ms os (length s) v.pass →
-        parsed_answer r ≡ and_then (read_answer k) (λ c. answer (unnamed c)) →
-        parsed_answer r ≡ capped (parse_stamp ms os s)
-    unfolding parsed_at bytes_count unless_at
-    stamp_unnamed k r o some_fields h c f =
-        let good : not_allowed_from 0 s ≡ none = scanned.allowed ∙ all_allowed ms os (length s) s w.pass w.at v g front_within h in
-        let passed : v.pass ≡ run ms os (length s) begun 0 s = whole_pass ms os (length s) s w.pass w.at v g front_within h ∙ sym scanned.onward in
-        rw (parse_short, slash_none s (no_slash s 0 good), good)
-        (f
-        ∙ ap (λ x. and_then x (λ q. answer (unnamed q))) (c ∙ ap (total ms os (length s)) passed ∙ counted ms os (length s) o 0 s some_fields)
-        ∙ sym (capped_unnamed (fields_count ms os (length s) (fields_from 0 s))))
+    module _ (k : Result Reading Refusal) (o : length os ≡ length ms) (some_fields : 1 ≤ length ms) (h : length s ≤ v.at) (c : answer_of k ≡ total ms os (length s) v.pass) where
+      after_count : and_then (answer_of k) (λ q. answer (unnamed q)) ≡ capped (parse_stamp ms os s)
+      unfolding parsed_at bytes_count unless_at
+      after_count =
+          let good : not_allowed_from 0 s ≡ none = scanned.allowed ∙ all_allowed ms os (length s) s w.pass w.at v g front_within h in
+          let passed : v.pass ≡ run ms os (length s) begun 0 s = whole_pass ms os (length s) s w.pass w.at v g front_within h ∙ sym scanned.onward in
+          rw (parse_short, slash_none s (no_slash s 0 good), good)
+          (ap (λ x. and_then x (λ q. answer (unnamed q))) (c ∙ ap (total ms os (length s)) passed ∙ counted ms os (length s) o 0 s some_fields)
+          ∙ sym (capped_unnamed (fields_count ms os (length s) (fields_from 0 s))))
+
+      pub stamp_unnamed : (q : Reading) → k ≡ Ok q → answer (unnamed q) ≡ capped (parse_stamp ms os s)
+      unfolding and_then
+      stamp_unnamed q e = rw e at after_count
+
+      pub unnamed_refused : (n : Refusal) → k ≡ Err n → refused (as_numbered n) ≡ capped (parse_stamp ms os s)
+      unfolding and_then
+      unnamed_refused n e = rw e at after_count
 
     -- a byte that is not allowed, with a `/` behind it or without
     module _ (h : v.at < length s) where
       bad : not_allowed_from 0 s ≡ some v.at
       bad = scanned.allowed ∙ not_allowed ms os (length s) s w.pass w.at v g front_within h
 
-      pub stamp_other : (k : Refusal) (i : ℕ) → i ≡ cond (among 47 (drop v.at s)) w.at v.at → k ≡ placed 5 i → refused k ≡ capped (parse_stamp ms os s)
+      pub stamp_other : (k : Numbered) (i : ℕ) → i ≡ cond (among 47 (drop v.at s)) w.at v.at → k ≡ placed 5 i → refused k ≡ capped (parse_stamp ms os s)
       unfolding parsed_at unless_at bytes_count and_then capped
       stamp_other k i c f =
           ⊎_elim

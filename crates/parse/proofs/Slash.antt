@@ -1,12 +1,12 @@
 -- Where the first `/` of a text stands, and whether one stands behind a place.
 use Prim.Native.Nat.{ℕ, zero, suc, ◌+◌, ◌≤◌, ◌<◌}
 use mathlib.Core.Path.{◌≡◌, refl, sym, ◌∙◌}
-use mathlib.Core.Bool.{Bool, true, false, cond, ◌&&◌}
+use mathlib.Core.Bool.{Bool, true, false, cond}
 use mathlib.Core.List.{List, [], ◌∷◌}
 use mathlib.Core.Option.{none, some, none-ne-some}
 use lib.Dec.{eqb, ltb}
 use lib.ListN.{length, get_or, drop, drop_of_length-le}
-use borrow.Author.Tests.{eqb-true, eq-eqb, ne_eqb, lt-ltb, le-ltb, ltb-true, ltb-false}
+use borrow.Author.Tests.{eqb-true, eq-eqb, ne_eqb, ltb-true, ltb-false}
 use native.Mathlib.Omega.{arith}
 use Rattle.base.specs.Scans.{among}
 use Rattle.base.proofs.Lists.{drop_next}
@@ -96,9 +96,3 @@ module _ (s : List ℕ) (front stop i : ℕ) (e : among 47 (drop stop s) ≡ amo
 
   pub walks : i < length s → (get_or s i 0 ≡ 47 → ⊥) → among 47 (drop stop s) ≡ among 47 (drop (i + 1) s)
   walks l n = e ∙ among_next s i l n
-
-pub slash_past : (s : List ℕ) (i : ℕ) → length s ≤ i → false ≡ (ltb i (length s) && slash s i)
-slash_past s i h = rw (le-ltb i (length s) h)
-
-pub slash_at : (s : List ℕ) (i : ℕ) → i < length s → slash s i ≡ (ltb i (length s) && slash s i)
-slash_at s i h = rw (lt-ltb i (length s) h)

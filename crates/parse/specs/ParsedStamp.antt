@@ -6,10 +6,9 @@ use Rattle.fields.specs.Pass.{field_cap}
 use Rattle.parse.specs.declared.ParsedStamp.{ParsedStamp}
 use Rattle.parse.specs.declared.ParsedStamp.TheVariants as Parses
 
-abbrev pub parsed_answer : ParsedStamp → Answer Parsed
-parsed_answer (Parses.Named k r) = answer (named k r)
-parsed_answer (Parses.Unnamed r) = answer (unnamed r)
-parsed_answer (Parses.Refused k) = refused k
+abbrev pub parsed : ParsedStamp → Parsed
+parsed (Parses.Named k r) = named k r
+parsed (Parses.Unnamed r) = unnamed r
 
 -- only code caps: the number is kept as the cap where it is larger
 unfoldable pub capped : Answer Parsed → Answer Parsed

@@ -1,37 +1,20 @@
 -- What each way out of `check` says of the partitions: 2 and where, or their total. The code has n starts and m ends, wherever they lie.
 use Prim.Native.Nat.{ℕ, ◌≤◌, ◌<◌, min}
 use mathlib.Core.Path.{◌≡◌, sym, ◌∙◌}
-use mathlib.Core.Bool.{Bool, true, false, not, and-true}
+use mathlib.Core.Bool.{Bool, true, false, not}
 use mathlib.Core.List.{List}
 use native.Mathlib.Omega.{arith}
-use lib.Dec.{leb}
 use lib.ListN.{length, get_or}
-use borrow.Author.Tests.{eq-eqb, ne_eqb, eqb-true, le-leb, lt-leb, not-true, not-false}
-use Rattle.base.specs.Scans.{all_of}
+use borrow.Author.Tests.{eqb-true, not-true, not-false}
 use Rattle.base.proofs.Tests.{all_of_head}
 use Rattle.base.proofs.Scans.{first_not_is, first_not_none}
-use Rattle.rules.specs.declared.Refusal.{Refusal}
-use Rattle.rules.specs.Answer.{answer, refused, placed, unless_at}
-use Rattle.rules.specs.Limits.{most_partitions}
+use Rattle.rules.specs.Answer.{answer, refused, placed, unless_at, Numbered}
 use Rattle.rules.specs.Partitions.{partitions, partition_ok, partition_lengths_ok, partitions_fault, total_of}
 use Rattle.partitions.specs.Total.{accepted_total, lengths_ok, row_ok}
 use Rattle.partitions.proofs.Rows.{RowsTo, row_fails}
 
--- each test of `lengths_ok`
+-- what `lengths_ok` says of the ends
 module _ (n m : ℕ) where
-  pub not_one_length : (m ≡ n → ⊥) → false ≡ lengths_ok n m
-  unfolding lengths_ok all_of
-  not_one_length h = rw (ne_eqb _ _ h)
-
-  module _ (same : m ≡ n) where
-    pub none_there : n < 1 → false ≡ lengths_ok n m
-    unfolding lengths_ok all_of
-    none_there h = rw (eq-eqb _ _ same, lt-leb _ _ h)
-
-    pub length_test : 1 ≤ n → leb n most_partitions ≡ lengths_ok n m
-    unfolding lengths_ok all_of
-    length_test h = rw (eq-eqb _ _ same, le-leb _ _ h) (sym (and-true (leb n most_partitions)))
-
   pub ends_there : (es : List ℕ) → m ≡ length es → {b : Bool} → b ≡ lengths_ok n m → not b ≡ false → (i : ℕ) → i < n → i < length es
   unfolding lengths_ok
   ends_there es em {b} test good i h = let same : m ≡ n = eqb-true m n (all_of_head _ _ (sym test ∙ not-false b good)) in omega arith
@@ -39,7 +22,7 @@ module _ (n m : ℕ) where
 module _ (P : ℕ) (ss es : List ℕ) where
   -- 2 at the place i is the answer
   abbrev Refuses : ℕ → Type 0
-  Refuses i = (r : Refusal) → r ≡ placed 2 i → refused r ≡ accepted_total P (partitions ss es)
+  Refuses i = (r : Numbered) → r ≡ placed 2 i → refused r ≡ accepted_total P (partitions ss es)
 
   module _ (n m : ℕ) (en : n ≡ length ss) (em : m ≡ length es) {a : Bool} (lengths : a ≡ lengths_ok n m) where
     length_test_is : partition_lengths_ok (partitions ss es) ≡ a

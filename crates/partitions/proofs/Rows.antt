@@ -1,41 +1,22 @@
 -- One row, and the rows before row i: they are good, and t is the sum of their lengths.
 use Prim.Native.Nat.{ℕ, ◌+◌, ◌-◌, ◌≤◌, ◌<◌}
 use mathlib.Core.Path.{◌≡◌, sym, ◌∙◌}
-use mathlib.Core.Bool.{Bool, true, false, not, and-true}
+use mathlib.Core.Bool.{Bool, true, false, not}
 use mathlib.Core.List.{List}
 use native.Mathlib.Omega.{arith}
-use lib.Dec.{leb}
 use lib.ListN.{get_or}
 use mir.Syntax.{w64}
 use mir.Val.{Fits}
 use borrow.Author.Count.{below_more}
-use borrow.Author.Tests.{lt-ltb, le-ltb, ltb-true, leb-true, not-true, not-false}
-use Rattle.base.specs.Scans.{all_of}
-use Rattle.base.proofs.Tests.{all_of_head, all_of_tail, leb_same}
+use borrow.Author.Tests.{ltb-true, leb-true, not-true, not-false}
+use Rattle.base.proofs.Tests.{all_of_head, all_of_tail}
 use Rattle.base.proofs.Scans.{sum_start, sum_next}
 use Rattle.rules.specs.Limits.{largest_total}
 use Rattle.rules.specs.Partitions.{partitions, length_of, lengths_before, partition_ok}
 use Rattle.partitions.specs.Total.{row_ok}
 
--- each test of `row_ok`
+-- a good row
 module _ (P t start end : ℕ) where
-  pub not_ordered : end ≤ start → false ≡ row_ok P t start end
-  unfolding row_ok all_of
-  not_ordered h = rw (le-ltb _ _ h)
-
-  module _ (ordered : start < end) where
-    pub not_in_range : P ≤ end → false ≡ row_ok P t start end
-    unfolding row_ok all_of
-    not_in_range h = rw (lt-ltb _ _ ordered, le-ltb _ _ h)
-
-    pub sum_test : end < P → t ≤ largest_total → leb (end - start) (largest_total - t) ≡ row_ok P t start end
-    unfolding row_ok all_of
-    sum_test h small =
-        rw (lt-ltb _ _ ordered, lt-ltb _ _ h)
-        (leb_same (end - start) (largest_total - t) (t + (end - start)) largest_total (λ l. omega arith) (λ l. omega arith)
-        ∙ sym (and-true (leb (t + (end - start)) largest_total)))
-
-  -- a good row
   module _ {b : Bool} (test : b ≡ row_ok P t start end) (good : not b ≡ false) where
     holds : row_ok P t start end ≡ true
     holds = sym test ∙ not-false b good

@@ -2,14 +2,8 @@
 use Rattle.std.specs.Prelude.{ℕ, ◌+◌, ◌-◌, Bool, [], ◌∷◌, leb, ltb, eqb}
 use Rattle.base.specs.Scans.{all_of}
 use Rattle.rules.specs.Limits.{most_partitions, largest_total}
-use Rattle.rules.specs.Answer.{Answer, answer, refused, unless_at}
+use Rattle.rules.specs.Answer.{Answer, answer, unless_at}
 use Rattle.rules.specs.Partitions.{Partitions, partitions_fault, total_of}
-use Rattle.partitions.specs.declared.TotalAnswer.{TotalAnswer}
-use Rattle.partitions.specs.declared.TotalAnswer.TheVariants as Of
-
-abbrev pub total_answer : TotalAnswer → Answer ℕ
-total_answer (Of.Total n) = answer n
-total_answer (Of.Refused k) = refused k
 
 -- 2, and the total of partitions under P
 unfoldable pub accepted_total : ℕ → Partitions → Answer ℕ

@@ -1,29 +1,27 @@
 -- What is known of every refusal of a call that has a place, rung by rung of the call's ladder.
+use Rattle.std.specs.Prelude.{Some, None}
 use Prim.Native.Nat.{ℕ}
 use mathlib.Core.Path.{◌≡◌, refl, sym, ap, subst}
 use mathlib.Core.Bool.{Bool, true, false}
 use mathlib.Core.Logic.{◌⊎◌, inl, inr}
 use mathlib.Core.Option.{Option, none, some}
 use native.Mathlib.Omega.{arith}
-use Rattle.rules.specs.declared.Refusal.{Refusal}
-use Rattle.rules.specs.declared.Place.{Place}
-use Rattle.rules.specs.declared.Place.TheVariants as Places
-use Rattle.rules.specs.Answer.{Answer, answer, refused, refuse, refuse_at, unless, unless_at, and_then}
+use Rattle.rules.specs.Answer.{Answer, answer, refused, refuse, refuse_at, unless, unless_at, and_then, Numbered}
 use Rattle.rules.proofs.Answers.{not_answer}
 
 module _ {A : Type 0} where
-  same_refusal : {r q : Refusal} → ◌≡◌ {A = Answer A} (refused r) (refused q) → r ≡ q
+  same_refusal : {r q : Numbered} → ◌≡◌ {A = Answer A} (refused r) (refused q) → r ≡ q
   same_refusal h = cc
 
   same_number : {k i n j : ℕ} → ◌≡◌ {A = Answer A} (refuse_at k i) (refuse_at n j) → k ≡ n
   same_number h = ap (λ r. r.number) (same_refusal h)
 
   same_place : {k i n j : ℕ} → ◌≡◌ {A = Answer A} (refuse_at k i) (refuse_at n j) → i ≡ j
-  same_place {k} {i} {n} {j} h = let e : Places.At i ≡ Places.At j = ap (λ r. r.place) (same_refusal h) in cc
+  same_place {k} {i} {n} {j} h = let e : Some i ≡ Some j = ap (λ r. r.place) (same_refusal h) in cc
 
   pub no_place : {k n j : ℕ} → ◌≡◌ {A = Answer A} (refuse k) (refuse_at n j) → ⊥
   no_place {k} {n} {j} h =
-      let e : Places.None ≡ Places.At j = ap (λ r. r.place) (same_refusal h) in
+      let e : None ≡ Some j = ap (λ r. r.place) (same_refusal h) in
       let z : ◌≡◌ {A = ℕ} 0 1 = cc in
       omega arith
 

@@ -3,8 +3,7 @@ use Rattle.std.specs.Prelude.{ℕ, ◌-◌, ◌*◌, ◌^◌, ◌≡◌, refl, L
 use Prim.Native.String.{String}
 use Rattle.std.proofs.Math.Option.{Option, none, some}
 use Rattle.rules.specs.declared.Layout.{Layout}
-use Rattle.rules.specs.declared.Refusal.{Refusal}
-use Rattle.rules.specs.Answer.{Answer, answer, refused, numbered, placed}
+use Rattle.rules.specs.Answer.{Answer, answer, refused, numbered, placed, Numbered}
 use Rattle.rules.specs.Partitions.{Partitions, partitions}
 use Rattle.rules.specs.Segments.{Segments, segments}
 use Rattle.rules.specs.Text.{read_text}
@@ -32,12 +31,12 @@ pub data Asked : Type 0 where
   count_at_lem : ℤ → Asked
   double : ℕ → Asked
 
-pub refusal_in : {A : Type 0} → Answer A → Option Refusal
+pub refusal_in : {A : Type 0} → Answer A → Option Numbered
 refusal_in (answer x) = none
 refusal_in (refused k) = some k
 
 -- under table A where the question names no table
-pub refusal_to : Asked → Option Refusal
+pub refusal_to : Asked → Option Numbered
 refusal_to (text l s) = refusal_in (read_text l s)
 refusal_to (stamp l p s) = refusal_in (read_stamp l p s)
 refusal_to (message m) = refusal_in (read_message layout_a partitions_a m)
@@ -50,22 +49,22 @@ refusal_to (double msf) = refusal_in (forward_double zeros msf 0)
 
 pub record PlaceCase : Type 0 where
   pub asked : Asked
-  pub expected : Refusal
+  pub expected : Numbered
 
-case : Asked → Refusal → PlaceCase
+case : Asked → Numbered → PlaceCase
 case q r = record { asked = q; expected = r }
 
-text_a : String → Refusal → PlaceCase
+text_a : String → Numbered → PlaceCase
 text_a s r = case (text layout_a (bytes s)) r
 
-stamp_a : String → Refusal → PlaceCase
+stamp_a : String → Numbered → PlaceCase
 stamp_a s r = case (stamp layout_a partitions_a (bytes s)) r
 
 -- partitions and segments with table A's others
-spans : Partitions → Refusal → PlaceCase
+spans : Partitions → Numbered → PlaceCase
 spans p r = case (tables layout_a p segments_a) r
 
-rows : Segments → Refusal → PlaceCase
+rows : Segments → Numbered → PlaceCase
 rows g r = case (tables layout_a partitions_a g) r
 
 -- segments of these counts, their times 1 ns apart, a tick of 1 ns

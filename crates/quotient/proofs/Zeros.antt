@@ -1,6 +1,6 @@
 -- Where the digits of a quotient start: the lengths of the two numbers tell how many zeros stand in front.
 -- Assumes nothing.
-use Rattle.std.proofs.Common.{◌≡◌, ℕ, zero, suc, ◌+◌, ◌-◌, ◌*◌, ◌/◌, ◌%◌, ◌^◌, ◌<◌, ◌≤◌, max, sym, ap, ◌∙◌, lt_of_lt_of_le, mul-le-mul_right, mod-eq_of_lt, mul_assoc, add-mul, lt_of_mul-lt-mul_right, div-add-mod', zero-add, zero-mul, div-one, arith, pow_mono, pow-add, w64, Fits}
+use Rattle.std.proofs.Common.{◌≡◌, ℕ, zero, suc, ◌+◌, ◌-◌, ◌*◌, ◌/◌, ◌%◌, ◌^◌, ◌<◌, ◌≤◌, max, ap, lt_of_lt_of_le, mul-le-mul_right, mod-eq_of_lt, mul_assoc, add-mul, lt_of_mul-lt-mul_right, div-add-mod', zero-add, zero-mul, div-one, arith, pow_mono, pow-add, w64, Fits}
 use native.Mathlib.Nat.{pow-succ', mod-one, mul-mod_left}
 use lib.Arith.{digits_lt}
 use lib.Count.{count_leading_zeros, leading_length}

@@ -3,19 +3,11 @@
 #![tactic(auto)]
 
 ghost use Rattle.std.specs.Prelude.{◌≡◌, ◌+◌, ◌*◌, ◌^◌, ◌<◌, ◌≤◌, if◌then◌else◌};
-ghost use Rattle.wide.specs.Wide.{value};
 ghost use Rattle.base.specs.Rounding.{round_down, round_up};
 ghost use Rattle.quotient.specs.Quotient.{fit};
 ghost use Rattle.quotient.specs.Steps.{Divided, Length, UnderWay, Raised, dividend, digit_at, lowered};
 
-use wide::{Wide, mul};
-
-// A quotient in one word: `TooLarge` where it does not fit 64 bits, and where the divisor is 0.
-#[derive(Clone, Copy)]
-pub enum Quotient {
-    Fits(u64),
-    TooLarge,
-}
+use wide::{high, low};
 
 // 2^63: the top bit of a word.
 const HALF: u64 = 9223372036854775808;
@@ -35,46 +27,41 @@ struct Step {
     known: u32,
 }
 
-// `a * b / d`, rounded down.
-pub fn div_down(a: u64, b: u64, d: u64) -> Quotient
+// `a * b / d`, rounded down. None where it does not fit 64 bits, and where `d` is 0.
+pub fn div_down(a: u64, b: u64, d: u64) -> Option<u64>
     requires { d ≤ 2 ^ 63 }
     ensures { result ≡ fit d (round_down (a * b) d) }
 {
-    let x = mul(a, b);
-    let hi = x.hi;
+    let hi = high(a, b);
     if d <= hi {
-        return Quotient::TooLarge;
+        return None;
     }
-    let by = divide(x, d);
-    Quotient::Fits(by.quotient)
+    let by = divide(hi, low(a, b), d);
+    Some(by.quotient)
 }
 
-// `a * b / d`, rounded up.
-pub fn div_up(a: u64, b: u64, d: u64) -> Quotient
+// The same rounded up.
+pub fn div_up(a: u64, b: u64, d: u64) -> Option<u64>
     requires { d ≤ 2 ^ 63 }
     ensures { result ≡ fit d (round_up (a * b) d) }
 {
-    let x = mul(a, b);
-    let hi = x.hi;
+    let hi = high(a, b);
     if d <= hi {
-        return Quotient::TooLarge;
+        return None;
     }
-    let by = divide(x, d);
-    let quotient = by.quotient;
+    let by = divide(hi, low(a, b), d);
     if by.rest == 0 {
-        return Quotient::Fits(quotient);
+        return Some(by.quotient);
     }
-    if quotient == u64::MAX {
-        return Quotient::TooLarge;
-    }
-    Quotient::Fits(quotient + 1)
+    by.quotient.checked_add(1)
 }
 
-fn divide(x: Wide, d: u64) -> Division
-    requires { (x.hi < d) × (d ≤ 2 ^ 63) }
-    ensures { Divided (value x) d result.quotient result.rest }
+// The number `hi` times 2^64 plus `lo` by `d`.
+fn divide(hi: u64, lo: u64, d: u64) -> Division
+    requires { (hi < d) × (d ≤ 2 ^ 63) }
+    ensures { Divided (hi * 2 ^ 64 + lo) d result.quotient result.rest }
 {
-    let from = skip_zeros(x.hi, x.lo, d);
+    let from = skip_zeros(hi, lo, d);
     digits(from.rest, from.word, d, from.known)
 }
 
@@ -115,13 +102,11 @@ fn digits(rest: u64, word: u64, d: u64, known: u32) -> Division
 {
     let mut y = rest + rest + (word >> 63) + (HALF - d);
     let mut w = word;
-    let mut k = known;
-    while k < 64 {
+    for _k in known..64 {
         let next = bit(w, 62);
         let by = turn(y, next, d);
         w = (w << 1) + by.quotient;
         y = by.rest;
-        k = k + 1;
     }
     Division {
         quotient: w,

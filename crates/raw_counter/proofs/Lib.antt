@@ -1,3 +1,2 @@
--- The difference and the sum, a partition's start, and each way out of the two calls.
-pub mod Counting
+-- Each way out of the two calls.
 pub mod Calls

@@ -3,16 +3,16 @@
 #![tactic(auto)]
 
 ghost use Rattle.std.specs.Prelude.{◌≡◌, ◌+◌, ◌-◌, ◌&&◌, length, nat_le};
-ghost use Rattle.rules.specs.Answer.{answer, unless};
+ghost use Rattle.rules.specs.Answer.{answer, unless, answer_of};
 ghost use Rattle.rules.specs.Partitions.{partitions, lengths_before};
 ghost use Rattle.encode.specs.Listed.{Listed};
-ghost use Rattle.raw_rules.specs.Counter.{raw_difference, reset_raw, not_past, read_raw, counter_after, raw_answer};
+ghost use Rattle.raw_rules.specs.Counter.{raw_difference, reset_raw, not_past, read_raw, counter_after};
 
 use encode::lengths_before;
 use layouts::measure;
-use raw_rules::{RawAnswer, RawCounter, RawStep};
-use rules::Layout;
-use tables::{Acceptance, accept_stamps};
+use raw_rules::{RawCounter, RawStep};
+use rules::{Layout, Refusal};
+use tables::accept_stamps;
 
 // Starts again at the start of the partition with this number, from 1, where the satellite's counter shows `raw`.
 pub fn reset_raw(
@@ -23,13 +23,17 @@ pub fn reset_raw(
     number: u64,
     raw: u32,
 ) -> RawStep
-    ensures answer_value { raw_answer result.answer ≡ reset_raw layout (partitions starts.now ends.now) number }
+    ensures answer_value { answer_of result.answer ≡ reset_raw layout (partitions starts.now ends.now) number }
     ensures next_value { result.next ≡ counter_after counter raw (reset_raw layout (partitions starts.now ends.now) number) }
 {
-    match accept_stamps(measure(layout), starts, ends) {
-        Acceptance::Accepted(_) => step(counter, raw, start_of(starts, ends, number)),
-        Acceptance::Refused(k) => step(counter, raw, RawAnswer::Refused(k)),
-    }
+    step(counter, raw, start_in(layout, starts, ends, number))
+}
+
+fn start_in(layout: Layout, starts: &[u64], ends: &[u64], number: u64) -> Result<u64, Refusal>
+    ensures { answer_of result ≡ reset_raw layout (partitions starts.now ends.now) number }
+{
+    accept_stamps(measure(layout), starts, ends)?;
+    start_of(starts, ends, number)
 }
 
 // Adds the ticks since the last accepted call: the satellite's counter shows `raw` now.
@@ -40,76 +44,80 @@ pub fn read_raw(
     counter: RawCounter,
     raw: u32,
 ) -> RawStep
-    ensures answer_value { raw_answer result.answer ≡ read_raw layout (partitions starts.now ends.now) counter raw }
+    ensures answer_value { answer_of result.answer ≡ read_raw layout (partitions starts.now ends.now) counter raw }
     ensures next_value { result.next ≡ counter_after counter raw (read_raw layout (partitions starts.now ends.now) counter raw) }
 {
-    match accept_stamps(measure(layout), starts, ends) {
-        Acceptance::Accepted(b) => step(counter, raw, count_of(b.total, counter, raw)),
-        Acceptance::Refused(k) => step(counter, raw, RawAnswer::Refused(k)),
-    }
+    step(counter, raw, count_in(layout, starts, ends, counter, raw))
+}
+
+fn count_in(
+    layout: Layout,
+    starts: &[u64],
+    ends: &[u64],
+    counter: RawCounter,
+    raw: u32,
+) -> Result<u64, Refusal>
+    ensures { answer_of result ≡ read_raw layout (partitions starts.now ends.now) counter raw }
+{
+    let b = accept_stamps(measure(layout), starts, ends)?;
+    count_of(b.total, counter, raw)
 }
 
 // The answer, with the counter that it leaves.
-fn step(counter: RawCounter, raw: u32, answer: RawAnswer) -> RawStep
-    ensures answer_value { raw_answer result.answer ≡ raw_answer answer }
-    ensures next_value { result.next ≡ counter_after counter raw (raw_answer answer) }
+#[tactic(auto, unfolding(raw_rules::specs::Counter::counter_after))]
+fn step(counter: RawCounter, raw: u32, answer: Result<u64, Refusal>) -> RawStep
+    ensures answer_value { answer_of result.answer ≡ answer_of answer }
+    ensures next_value { result.next ≡ counter_after counter raw (answer_of answer) }
 {
-    match answer {
-        RawAnswer::Count(count) => RawStep {
-            answer,
-            next: RawCounter {
-                started: true,
-                raw,
-                count,
-            },
+    let next = match answer {
+        Ok(count) => RawCounter {
+            started: true,
+            raw,
+            count,
         },
-        RawAnswer::Refused(_) => RawStep {
-            answer,
-            next: counter,
-        },
-    }
+        Err(_) => counter,
+    };
+    RawStep { answer, next }
 }
 
 // The encoded count of a partition's start.
-fn start_of(starts: &[u64], ends: &[u64], number: u64) -> RawAnswer
+#[tactic(auto, unfolding(rules::specs::Answer::unless))]
+fn start_of(starts: &[u64], ends: &[u64], number: u64) -> Result<u64, Refusal>
     requires { Listed (partitions starts.now ends.now) }
-    ensures { raw_answer result ≡ unless 10 (nat_le 1 number && nat_le number (length starts.now)) (answer (lengths_before (partitions starts.now ends.now) (number - 1))) }
+    ensures { answer_of result ≡ unless 10 (nat_le 1 number && nat_le number (length starts.now)) (answer (lengths_before (partitions starts.now ends.now) (number - 1))) }
 {
-    if number < 1 {
-        return RawAnswer::Refused(refusals::NO_SUCH_PARTITION);
+    if number < 1 || (starts.len() as u64) < number {
+        return Err(Refusal::NoSuchPartition);
     }
-    if (starts.len() as u64) < number {
-        return RawAnswer::Refused(refusals::NO_SUCH_PARTITION);
-    }
-    RawAnswer::Count(lengths_before(starts, ends, (number - 1) as usize))
+    Ok(lengths_before(starts, ends, (number - 1) as usize))
 }
 
 // The encoded count that a reading makes, under a table with this total.
-fn count_of(total: u64, counter: RawCounter, raw: u32) -> RawAnswer
-    ensures { raw_answer result ≡ unless 27 counter.started (not_past total (counter.count + raw_difference raw counter.raw)) }
+#[tactic(auto, unfolding(rules::specs::Answer::unless))]
+fn count_of(total: u64, counter: RawCounter, raw: u32) -> Result<u64, Refusal>
+    ensures { answer_of result ≡ unless 27 counter.started (not_past total (counter.count + raw_difference raw counter.raw)) }
 {
-    if counter.started {
-        return add(total, counter.count, difference(raw, counter.raw));
+    if !counter.started {
+        return Err(Refusal::NeverReset);
     }
-    RawAnswer::Refused(refusals::NEVER_RESET)
+    add(total, counter.count, difference(raw, counter.raw))
 }
 
 // How far a 32-bit counter moved from `last` to `raw`.
+#[tactic(auto, unfolding(raw_rules::specs::Counter::raw_difference))]
 fn difference(raw: u32, last: u32) -> u32
     ensures { result ≡ raw_difference raw last }
 {
-    std::num::wrapping_sub_u32(raw, last)
+    raw.wrapping_sub(last)
 }
 
-// The sum where it is not past the total. No sum is made that could wrap: the count may be any number.
-fn add(total: u64, count: u64, ticks: u32) -> RawAnswer
-    ensures { raw_answer result ≡ not_past total (count + ticks) }
+// The sum where it is not past the total. The count may be any number.
+#[tactic(auto, unfolding(raw_rules::specs::Counter::not_past, rules::specs::Answer::unless))]
+fn add(total: u64, count: u64, ticks: u32) -> Result<u64, Refusal>
+    ensures { answer_of result ≡ not_past total (count + ticks) }
 {
-    if total < count {
-        return RawAnswer::Refused(refusals::BEYOND_TOTAL);
+    match count.checked_add(u64::from(ticks)) {
+        Some(sum) if sum <= total => Ok(sum),
+        _ => Err(Refusal::BeyondTotal),
     }
-    if total - count < (ticks as u64) {
-        return RawAnswer::Refused(refusals::BEYOND_TOTAL);
-    }
-    RawAnswer::Count(count + (ticks as u64))
 }

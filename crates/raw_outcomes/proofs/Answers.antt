@@ -8,8 +8,7 @@ use borrow.Author.Tests.{leb-true, le-leb}
 use Rattle.base.proofs.Tests.{and_first, and_second}
 use Rattle.base.proofs.Scans.{sum_up}
 use Rattle.rules.specs.declared.Layout.{Layout}
-use Rattle.rules.specs.declared.Refusal.{Refusal}
-use Rattle.rules.specs.Answer.{Answer, answer, refused, unless}
+use Rattle.rules.specs.Answer.{Answer, answer, refused, unless, Numbered}
 use Rattle.rules.specs.Layout.{layout_ok, product_of}
 use Rattle.rules.specs.Partitions.{Partitions, partitions_in, start_of, end_of, length_of, lengths_before, total_of, partitions_fault, partitions_ok}
 use Rattle.rules.specs.Stamp.{holds, encoded_in, encode_named}
@@ -74,7 +73,7 @@ module _ (l : Layout) (p : Partitions) where
 
 -- what a call leaves, by its answer
 module _ (c : RawCounter) (raw : ℕ) (a : Answer ℕ) where
-  pub left-refused : (k : Refusal) → a ≡ refused k → counter_after c raw a ≡ c
+  pub left-refused : (k : Numbered) → a ≡ refused k → counter_after c raw a ≡ c
   unfolding counter_after
   left-refused k h = rw h
 

@@ -7,8 +7,7 @@ use native.Mathlib.Omega.{arith}
 use borrow.Author.Tests.{leb-true, ltb-true}
 use Rattle.base.proofs.Tests.{by_test, not_both, and_first, and_second, or_only_first, neither_first, neither_second}
 use Rattle.rules.specs.declared.Layout.{Layout}
-use Rattle.rules.specs.declared.Refusal.{Refusal}
-use Rattle.rules.specs.Answer.{Answer, answer, refused}
+use Rattle.rules.specs.Answer.{Answer, answer, refused, Numbered}
 use Rattle.rules.specs.Partitions.{Partitions, lengths_before}
 use Rattle.raw_rules.specs.declared.RawCounter.{RawCounter}
 use Rattle.raw_rules.specs.Counter.{raw_difference, reset_raw, read_raw, counter_after}
@@ -16,7 +15,7 @@ use Rattle.raw_rules.specs.Calls.{Call, reset, read, raw_of, call_answer, after_
 use Rattle.raw_outcomes.specs.History.{is_accepted, is_accepted_reset, some_accepted_reset, accepted_raw, accepted_raws, differences, last_from, counted, Around, reset_in, calls_of, reset_accepted, reset_since, LastReset, accepted_since, reset_start, low, each_next, counts_up, moves_less, Track, Hypothesis, reset_low, readings_low, rises, short, Says, moved_by, added_up, track_of, History}
 use Rattle.raw_outcomes.proofs.Answers.{reset-count, reset_start_lem, reset_within, read-started, read_count_lem, read_within, left-refused, left-answer}
 
-refused_call : (c : RawCounter) (x : Call) (k : Refusal) → call_answer c x ≡ refused k → after_call c x ≡ c
+refused_call : (c : RawCounter) (x : Call) (k : Numbered) → call_answer c x ≡ refused k → after_call c x ≡ c
 unfolding after_call
 refused_call c x k h = left-refused c (raw_of x) (call_answer c x) k h
 

@@ -10,7 +10,7 @@ use Rattle.rules.specs.Answer.{answer, unless}
 use Rattle.rules.proofs.Answers.{payload, unless-test}
 use Rattle.raw_rules.specs.Seconds.{largest_microsecond, subtick_of, with_carry, read_seconds}
 use Rattle.raw_rules.proofs.Seconds.{carry_sum}
-use Rattle.raw_outcomes.specs.Subticks.{Nearest, NearestSubtick, first_carried, HalfUp, Subticks}
+use Rattle.raw_outcomes.specs.Subticks.{NearestSubtick, first_carried, HalfUp, Subticks}
 
 nearest : (us : ℕ) → NearestSubtick us (subtick_of us)
 unfolding subtick_of round_down

@@ -1,8 +1,7 @@
 -- "After any list of calls, each on the state the one before left": what the count is then. proofs/History.antt has the proof.
 use Rattle.std.specs.Prelude.{ℕ, ◌+◌, ◌-◌, ◌%◌, ◌≤◌, ◌≡◌, Bool, true, false, ◌&&◌, ◌||◌, cond, List, [], ◌∷◌, ◌++◌, map, leb, ltb}
 use Rattle.rules.specs.declared.Layout.{Layout}
-use Rattle.rules.specs.declared.Refusal.{Refusal}
-use Rattle.rules.specs.Answer.{Answer, answer, refused}
+use Rattle.rules.specs.Answer.{Answer, answer, refused, Numbered}
 use Rattle.rules.specs.Partitions.{Partitions, start_of, lengths_before, total_of}
 use Rattle.rules.specs.Stamp.{encode_named}
 use Rattle.raw_rules.specs.declared.RawCounter.{RawCounter}
@@ -143,7 +142,7 @@ pub record History : Type 0 where
   pub goes_on : (c : RawCounter) (calls : List Call) → c.started ≡ true → some_accepted_reset calls ≡ false → after_calls c calls ≡ counted c.raw c.count (accepted_raws c calls)
   pub stays : (c : RawCounter) (calls : List Call) → c.started ≡ false → some_accepted_reset calls ≡ false → after_calls c calls ≡ c
   -- "A refused reading or reset leaves the state."
-  pub refused_leaves : (c : RawCounter) (x : Call) (k : Refusal) → call_answer c x ≡ refused k → after_call c x ≡ c
+  pub refused_leaves : (c : RawCounter) (x : Call) (k : Numbered) → call_answer c x ≡ refused k → after_call c x ≡ c
   -- "starts again at its start": what 01 encodes the start of that partition to
   pub reset_start_lem : (l : Layout) (p : Partitions) (number e : ℕ) → reset_raw l p number ≡ answer e → encode_named p number (start_of p (number - 1)) ≡ answer e
   -- an answer is an encoded count of the call's table: count to time and printing do not refuse it 12

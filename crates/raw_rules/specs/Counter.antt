@@ -5,8 +5,6 @@ use Rattle.rules.specs.Answer.{Answer, answer, refused, unless}
 use Rattle.rules.specs.Partitions.{Partitions, partitions_in, lengths_before, total_of}
 use Rattle.rules.specs.Accepted.{accepted_stamps}
 use Rattle.raw_rules.specs.declared.RawCounter.{RawCounter}
-use Rattle.raw_rules.specs.declared.RawAnswer.{RawAnswer}
-use Rattle.raw_rules.specs.declared.RawAnswer.TheVariants as Raws
 
 -- "a 32-bit tick counter": so many raw numbers there are, 2^32
 abbrev pub raw_numbers : ℕ
@@ -39,8 +37,3 @@ read_raw l p c raw =
 unfoldable pub counter_after : RawCounter → ℕ → Answer ℕ → RawCounter
 counter_after c raw (answer e) = record { started = true; raw = raw; count = e }
 counter_after c raw (refused k) = c
-
--- The paper's number and value for each case of the code's answer.
-abbrev pub raw_answer : RawAnswer → Answer ℕ
-raw_answer (Raws.Count e) = answer e
-raw_answer (Raws.Refused k) = refused k

@@ -1,3 +1,2 @@
--- The sentences, and a refusal put together of its fields.
-pub mod Sentences
+-- A refusal put together of its fields.
 pub mod Refusals

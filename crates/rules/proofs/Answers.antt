@@ -4,14 +4,13 @@ use mathlib.Core.Path.{◌≡◌, refl}
 use mathlib.Core.Bool.{Bool, true, false}
 use mathlib.Core.Option.{Option, none, some}
 use native.Mathlib.Omega.{arith}
-use Rattle.rules.specs.declared.Refusal.{Refusal}
-use Rattle.rules.specs.Answer.{Answer, answer, refused, unless, unless_at}
+use Rattle.rules.specs.Answer.{Answer, answer, refused, unless, unless_at, Numbered}
 
 module _ {A : Type 0} where
   pub payload : {x y : A} → ◌≡◌ {A = Answer A} (answer x) (answer y) → x ≡ y
   payload q = cc
 
-  pub not_answer : {k : Refusal} {v : A} → ◌≡◌ {A = Answer A} (refused k) (answer v) → ⊥
+  pub not_answer : {k : Numbered} {v : A} → ◌≡◌ {A = Answer A} (refused k) (answer v) → ⊥
   not_answer h = let z : ◌≡◌ {A = ℕ} 0 1 = cc in omega arith
 
   pub unless-test : (k : ℕ) (t : Bool) (a : Answer A) (v : A) → unless k t a ≡ answer v → t ≡ true

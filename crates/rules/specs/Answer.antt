@@ -1,37 +1,29 @@
--- What a call answers: a value, or a refusal. Each answer type of the code is read as one of these.
-use Rattle.std.specs.Prelude.{ℕ, Bool, true, false, ℤ, Float}
+-- What a call answers: a value, or a refusal, which is a number of the table "What is refused" and, for some, a place.
+use Rattle.std.specs.Prelude.{ℕ, Bool, true, false, ℤ, Some, None, Result, Ok, Err}
+use Rattle.std.specs.Prelude.{Option as Place}
 use Rattle.std.proofs.Math.Option.{Option, none, some}
-use Rattle.rules.specs.declared.Refusal.{Refusal}
-use Rattle.rules.specs.declared.Place.TheVariants as Places
+use Rattle.rules.specs.declared.refusal.Refusal.{Refusal}
+use Rattle.rules.specs.declared.refusal.Refusal.TheVariants as R
 use Rattle.rules.specs.declared.Reading.{Reading}
-use Rattle.rules.specs.declared.ReadAnswer.{ReadAnswer}
-use Rattle.rules.specs.declared.ReadAnswer.TheVariants as Reads
 use Rattle.rules.specs.declared.TimeOfCount.{TimeOfCount}
-use Rattle.rules.specs.declared.TimeAnswer.{TimeAnswer}
-use Rattle.rules.specs.declared.TimeAnswer.TheVariants as Times
 use Rattle.rules.specs.declared.CountAtTime.{CountAtTime}
-use Rattle.rules.specs.declared.CountAnswer.{CountAnswer}
-use Rattle.rules.specs.declared.CountAnswer.TheVariants as Counts
 use Rattle.rules.specs.declared.TimedStamp.{TimedStamp}
-use Rattle.rules.specs.declared.StampAnswer.{StampAnswer}
-use Rattle.rules.specs.declared.StampAnswer.TheVariants as Stamps
-use Rattle.rules.specs.declared.PrintAnswer.{PrintAnswer}
-use Rattle.rules.specs.declared.PrintAnswer.TheVariants as Prints
-use Rattle.rules.specs.declared.StepsBackAnswer.{StepsBackAnswer}
-use Rattle.rules.specs.declared.StepsBackAnswer.TheVariants as Steps
-use Rattle.rules.specs.declared.DoubleAnswer.{DoubleAnswer}
-use Rattle.rules.specs.declared.DoubleAnswer.TheVariants as Doubles
+
+-- A refusal by its number, and its place from 0.
+pub record Numbered : Type 0 where
+  pub number : ℕ
+  pub place : Place ℕ
 
 pub data Answer (A : Type 0) : Type 0 where
   answer : A → Answer A
-  refused : Refusal → Answer A
+  refused : Numbered → Answer A
 
--- "Each returns its number alone", which request 3 amends: some give a place as well.
-abbrev pub numbered : ℕ → Refusal
-numbered k = record { number = k; place = Places.None }
+-- without a place, and at the place i
+abbrev pub numbered : ℕ → Numbered
+numbered k = record { number = k; place = None }
 
-abbrev pub placed : ℕ → ℕ → Refusal
-placed k i = record { number = k; place = Places.At i }
+abbrev pub placed : ℕ → ℕ → Numbered
+placed k i = record { number = k; place = Some i }
 
 -- A rule that is to hold at the place i: it fails there, or nowhere.
 unfoldable pub fails_at : ℕ → Bool → Option ℕ
@@ -74,32 +66,72 @@ count_at_time c = record { count = c }
 abbrev pub timed_stamp : ℕ → ℤ → TimedStamp
 timed_stamp c t = record { count = c; time = t }
 
--- The paper's number and value for each case of the code's answers.
-abbrev pub read_answer : ReadAnswer → Answer Reading
-read_answer (Reads.Read r) = answer r
-read_answer (Reads.Refused k) = refused k
+-- The number and the place of each refusal of the code.
+abbrev pub number_of : Refusal → ℕ
+number_of R.Layout = 1
+number_of (R.Partitions row) = 2
+number_of (R.Segments row) = 3
+number_of R.TextTooLong = 4
+number_of (R.ByteNotAllowed at) = 5
+number_of R.FirstFieldMissing = 6
+number_of (R.TooManyFields at) = 7
+number_of (R.FieldBelowOffset at) = 8
+number_of (R.TooLarge at) = 9
+number_of R.CountTooLarge = 9
+number_of R.NoSuchPartition = 10
+number_of R.OutsidePartition = 11
+number_of R.BeyondTotal = 12
+number_of R.BeforeFirstSegment = 13
+number_of R.TimeOutOfRange = 14
+number_of R.DoubleForm = 15
+number_of R.BufferTooShort = 16
+number_of R.FirstLine = 18
+number_of R.Assignment = 19
+number_of R.NotExact = 20
+number_of R.NoTrailer = 21
+number_of R.NoText = 22
+number_of R.WrongDistance = 23
+number_of R.TooManyMicroseconds = 24
+number_of R.PacketLength = 25
+number_of R.PacketForm = 26
+number_of R.NeverReset = 27
 
-abbrev pub time_answer : TimeAnswer → Answer TimeOfCount
-time_answer (Times.Time t) = answer t
-time_answer (Times.Refused k) = refused k
+abbrev pub place_of : Refusal → Place ℕ
+place_of R.Layout = None
+place_of (R.Partitions row) = Some row
+place_of (R.Segments row) = Some row
+place_of R.TextTooLong = None
+place_of (R.ByteNotAllowed at) = Some at
+place_of R.FirstFieldMissing = None
+place_of (R.TooManyFields at) = Some at
+place_of (R.FieldBelowOffset at) = Some at
+place_of (R.TooLarge at) = Some at
+place_of R.CountTooLarge = None
+place_of R.NoSuchPartition = None
+place_of R.OutsidePartition = None
+place_of R.BeyondTotal = None
+place_of R.BeforeFirstSegment = None
+place_of R.TimeOutOfRange = None
+place_of R.DoubleForm = None
+place_of R.BufferTooShort = None
+place_of R.FirstLine = None
+place_of R.Assignment = None
+place_of R.NotExact = None
+place_of R.NoTrailer = None
+place_of R.NoText = None
+place_of R.WrongDistance = None
+place_of R.TooManyMicroseconds = None
+place_of R.PacketLength = None
+place_of R.PacketForm = None
+place_of R.NeverReset = None
 
-abbrev pub count_answer : CountAnswer → Answer CountAtTime
-count_answer (Counts.Count c) = answer c
-count_answer (Counts.Refused k) = refused k
+abbrev pub as_numbered : Refusal → Numbered
+as_numbered k = record { number = number_of k; place = place_of k }
 
-abbrev pub stamp_answer : StampAnswer → Answer TimedStamp
-stamp_answer (Stamps.Stamp s) = answer s
-stamp_answer (Stamps.Refused k) = refused k
+-- What a call's result says: `answer_as` where the answer is told by f, `answer_of` where it is the value.
+abbrev pub answer_as : {A B : Type 0} → (A → B) → Result A Refusal → Answer B
+answer_as f (Ok a) = answer (f a)
+answer_as f (Err k) = refused (as_numbered k)
 
-abbrev pub print_answer : PrintAnswer → Answer ℕ
-print_answer (Prints.Length n) = answer n
-print_answer (Prints.Refused k) = refused k
-
-abbrev pub steps_back_answer : StepsBackAnswer → Answer Bool
-steps_back_answer Steps.Yes = answer true
-steps_back_answer Steps.No = answer false
-steps_back_answer (Steps.Refused k) = refused k
-
-abbrev pub double_answer : DoubleAnswer → Answer Float
-double_answer (Doubles.Double x) = answer x
-double_answer (Doubles.Refused k) = refused k
+abbrev pub answer_of : {A : Type 0} → Result A Refusal → Answer A
+answer_of = answer_as (λ a. a)

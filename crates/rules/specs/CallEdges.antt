@@ -1,39 +1,12 @@
 -- The limits of the calls themselves, each at its edge and one beyond, and the order of refusals where two faults meet: a table with one
 -- statement for each kind of call. Then what the code's answers mean.
-use Rattle.std.specs.Prelude.{ℕ, zero, suc, ◌+◌, ◌-◌, ◌*◌, ◌^◌, ◌≡◌, refl, Bool, true, false, cond, List, [], ◌∷◌, ◌++◌, map, pos, negsuc, length, replicate}
+use Rattle.std.specs.Prelude.{ℕ, zero, suc, ◌+◌, ◌-◌, ◌*◌, ◌^◌, ◌≡◌, refl, Bool, true, false, cond, List, [], ◌∷◌, ◌++◌, map, pos, negsuc, length, replicate, Some, None, Ok, Err}
 use Prim.Native.String.{String}
 use Rattle.std.specs.Float.{nan, inf}
 use Rattle.rules.specs.declared.Layout.{Layout}
-use Rattle.rules.specs.declared.Refusal.{Refusal}
-use Rattle.rules.specs.declared.Place.TheVariants as Places
 use Rattle.rules.specs.declared.Reading.{Reading}
-use Rattle.rules.specs.declared.ReadAnswer.TheVariants as Reads
-use Rattle.rules.specs.declared.TimeAnswer.TheVariants as Times
-use Rattle.rules.specs.declared.CountAnswer.TheVariants as Counts
-use Rattle.rules.specs.declared.StampAnswer.TheVariants as Stamps
-use Rattle.rules.specs.declared.PrintAnswer.TheVariants as Prints
-use Rattle.rules.specs.declared.StepsBackAnswer.TheVariants as Steps
-use Rattle.rules.specs.declared.DoubleAnswer.TheVariants as Doubles
-use Rattle.rules.specs.Answer.{
-  Answer,
-  answer,
-  refused,
-  refuse,
-  refuse_at,
-  numbered,
-  placed,
-  reading,
-  time_of_count,
-  count_at_time,
-  timed_stamp,
-  read_answer,
-  time_answer,
-  count_answer,
-  stamp_answer,
-  print_answer,
-  steps_back_answer,
-  double_answer,
-}
+use Rattle.rules.specs.declared.refusal.Refusal.TheVariants as R
+use Rattle.rules.specs.Answer.{as_numbered, Answer, answer, refused, refuse, refuse_at, numbered, placed, reading, time_of_count, count_at_time, timed_stamp, Numbered, answer_of}
 use Rattle.rules.specs.Partitions.{Partitions, partitions}
 use Rattle.rules.specs.Segments.{Segments, segments}
 use Rattle.rules.specs.Text.{read_text, fields_from}
@@ -267,20 +240,31 @@ pub numbers_mean :
 numbers_mean = (refl, refl)
 
 -- a place, or none
-pub places_mean : (map (λ (r : Refusal). r.place) (numbered 5 ∷ placed 5 0 ∷ placed 5 3 ∷ []) ≡ (Places.None ∷ Places.At 0 ∷ Places.At 3 ∷ [])) × (((placed 5 3).number ∷ (placed 2 0).number ∷ []) ≡ (5 ∷ 2 ∷ []))
+pub places_mean : (map (λ (r : Numbered). r.place) (numbered 5 ∷ placed 5 0 ∷ placed 5 3 ∷ []) ≡ (None ∷ Some 0 ∷ Some 3 ∷ [])) × (((placed 5 3).number ∷ (placed 2 0).number ∷ []) ≡ (5 ∷ 2 ∷ []))
 places_mean = (refl, refl)
 
--- What each case of the code's answers means: its own value, or the refusal of its own number and place, whichever that is.
+-- What each case of a call's result means: its own value, or the refusal of its own number and place.
 pub answers_mean :
-    (map read_answer (Reads.Read (reading 5) ∷ Reads.Read (reading 6) ∷ Reads.Refused (numbered 4) ∷ Reads.Refused (placed 12 2) ∷ [])
-    ≡ (answer (reading 5) ∷ answer (reading 6) ∷ refuse 4 ∷ refuse_at 12 2 ∷ []))
-    × (map time_answer (Times.Time (time_of_count (pos 5)) ∷ Times.Time (time_of_count (negsuc 6)) ∷ Times.Refused (numbered 4) ∷ Times.Refused (placed 12 2) ∷ [])
-    ≡ (answer (time_of_count (pos 5)) ∷ answer (time_of_count (negsuc 6)) ∷ refuse 4 ∷ refuse_at 12 2 ∷ []))
-    × (map count_answer (Counts.Count (count_at_time 5) ∷ Counts.Count (count_at_time 6) ∷ Counts.Refused (numbered 13) ∷ Counts.Refused (placed 14 2) ∷ [])
-    ≡ (answer (count_at_time 5) ∷ answer (count_at_time 6) ∷ refuse 13 ∷ refuse_at 14 2 ∷ []))
-    × (map stamp_answer (Stamps.Stamp (timed_stamp 5 (pos 7)) ∷ Stamps.Stamp (timed_stamp 6 (negsuc 8)) ∷ Stamps.Refused (numbered 3) ∷ Stamps.Refused (placed 11 2) ∷ [])
-    ≡ (answer (timed_stamp 5 (pos 7)) ∷ answer (timed_stamp 6 (negsuc 8)) ∷ refuse 3 ∷ refuse_at 11 2 ∷ []))
-    × (map print_answer (Prints.Length 5 ∷ Prints.Length 6 ∷ Prints.Refused (numbered 12) ∷ Prints.Refused (placed 16 2) ∷ []) ≡ (answer 5 ∷ answer 6 ∷ refuse 12 ∷ refuse_at 16 2 ∷ []))
-    × (map steps_back_answer (Steps.Yes ∷ Steps.No ∷ Steps.Refused (numbered 2) ∷ Steps.Refused (placed 3 2) ∷ []) ≡ (answer true ∷ answer false ∷ refuse 2 ∷ refuse_at 3 2 ∷ []))
-    × (map double_answer (Doubles.Double nan ∷ Doubles.Double (inf true) ∷ Doubles.Refused (numbered 14) ∷ Doubles.Refused (placed 15 2) ∷ []) ≡ (answer nan ∷ answer (inf true) ∷ refuse 14 ∷ refuse_at 15 2 ∷ []))
+    (map answer_of (Ok (reading 5) ∷ Ok (reading 6) ∷ Err R.TextTooLong ∷ Err (R.TooManyFields 2) ∷ [])
+    ≡ (answer (reading 5) ∷ answer (reading 6) ∷ refuse 4 ∷ refuse_at 7 2 ∷ []))
+    × (map answer_of (Ok (time_of_count (pos 5)) ∷ Ok (time_of_count (negsuc 6)) ∷ Err R.BeyondTotal ∷ Err (R.Segments 2) ∷ [])
+    ≡ (answer (time_of_count (pos 5)) ∷ answer (time_of_count (negsuc 6)) ∷ refuse 12 ∷ refuse_at 3 2 ∷ []))
+    × (map answer_of (Ok (count_at_time 5) ∷ Ok (count_at_time 6) ∷ Err R.BeforeFirstSegment ∷ Err (R.Partitions 2) ∷ [])
+    ≡ (answer (count_at_time 5) ∷ answer (count_at_time 6) ∷ refuse 13 ∷ refuse_at 2 2 ∷ []))
+    × (map answer_of (Ok (timed_stamp 5 (pos 7)) ∷ Ok (timed_stamp 6 (negsuc 8)) ∷ Err R.OutsidePartition ∷ Err (R.TooLarge 2) ∷ [])
+    ≡ (answer (timed_stamp 5 (pos 7)) ∷ answer (timed_stamp 6 (negsuc 8)) ∷ refuse 11 ∷ refuse_at 9 2 ∷ []))
+    × (map (answer_of {A = ℕ}) (Ok 5 ∷ Ok 6 ∷ Err R.CountTooLarge ∷ Err (R.ByteNotAllowed 2) ∷ []) ≡ (answer 5 ∷ answer 6 ∷ refuse 9 ∷ refuse_at 5 2 ∷ []))
+    × (map answer_of (Ok true ∷ Ok false ∷ Err R.Layout ∷ Err (R.FieldBelowOffset 2) ∷ []) ≡ (answer true ∷ answer false ∷ refuse 1 ∷ refuse_at 8 2 ∷ []))
+    × (map answer_of (Ok nan ∷ Ok (inf true) ∷ Err R.DoubleForm ∷ []) ≡ (answer nan ∷ answer (inf true) ∷ refuse 15 ∷ []))
 answers_mean = (refl, refl, refl, refl, refl, refl, refl)
+
+-- Every refusal of the code, by its number and with its own place.
+pub refusals_mean : (i : ℕ) →
+    map as_numbered
+    (R.Layout ∷ R.Partitions i ∷ R.Segments i ∷ R.TextTooLong ∷ R.ByteNotAllowed i ∷ R.FirstFieldMissing ∷ R.TooManyFields i ∷ R.FieldBelowOffset i ∷ R.TooLarge i ∷ R.CountTooLarge
+    ∷ R.NoSuchPartition ∷ R.OutsidePartition ∷ R.BeyondTotal ∷ R.BeforeFirstSegment ∷ R.TimeOutOfRange ∷ R.DoubleForm ∷ R.BufferTooShort ∷ R.FirstLine ∷ R.Assignment ∷ R.NotExact ∷ R.NoTrailer
+    ∷ R.NoText ∷ R.WrongDistance ∷ R.TooManyMicroseconds ∷ R.PacketLength ∷ R.PacketForm ∷ R.NeverReset ∷ [])
+    ≡ (numbered 1 ∷ placed 2 i ∷ placed 3 i ∷ numbered 4 ∷ placed 5 i ∷ numbered 6 ∷ placed 7 i ∷ placed 8 i ∷ placed 9 i ∷ numbered 9
+    ∷ numbered 10 ∷ numbered 11 ∷ numbered 12 ∷ numbered 13 ∷ numbered 14 ∷ numbered 15 ∷ numbered 16 ∷ numbered 18 ∷ numbered 19 ∷ numbered 20 ∷ numbered 21
+    ∷ numbered 22 ∷ numbered 23 ∷ numbered 24 ∷ numbered 25 ∷ numbered 26 ∷ numbered 27 ∷ [])
+refusals_mean i = refl

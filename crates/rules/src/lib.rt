@@ -1,9 +1,13 @@
 // The types that the definitions name: a clock's layout with its limits, one segment, a refusal, and what the calls answer.
 #![tactic(auto)]
 
+pub use refusal::Refusal;
+
+mod refusal;
+
 // A clock's fields: n moduli and n offsets, and the code of the output delimiter.
 // Slots after the n-th are not looked at.
-#[derive(Clone, Copy)]
+#[derive(Clone, Copy, Debug, PartialEq, Eq)]
 pub struct Layout {
     pub n: usize,
     pub moduli: [u64; Layout::MOST_FIELDS],
@@ -22,7 +26,7 @@ impl Layout {
 }
 
 // One row of a segment table: time in nanoseconds, rate in picoseconds per first-field count.
-#[derive(Clone, Copy)]
+#[derive(Clone, Copy, Debug, PartialEq, Eq)]
 pub struct Segment {
     pub count: u64,
     pub time: i64,
@@ -30,93 +34,34 @@ pub struct Segment {
 }
 
 // A segment in doubles: time in seconds, rate in seconds per first-field count.
-#[derive(Clone, Copy)]
+#[derive(Clone, Copy, Debug, PartialEq)]
 pub struct DoubleSegment {
     pub count: f64,
     pub time: f64,
     pub rate: f64,
 }
 
-// Where a refusal was found, from 0: a byte of a text or a row of a table. Most refusals have no place.
-#[derive(Clone, Copy)]
-pub enum Place {
-    None,
-    At(usize),
-}
-
-// Why a call gives no answer: a number of the table of refusals, and its place.
-#[derive(Clone, Copy)]
-pub struct Refusal {
-    pub number: u64,
-    pub place: Place,
-}
-
 // What reading gives: the count of a text, the encoded count of a stamp or a message.
-#[derive(Clone, Copy)]
+#[derive(Clone, Copy, Debug, PartialEq, Eq)]
 pub struct Reading {
     pub count: u64,
 }
 
-#[derive(Clone, Copy)]
-pub enum ReadAnswer {
-    Read(Reading),
-    Refused(Refusal),
-}
-
 // What count to time gives, in nanoseconds.
-#[derive(Clone, Copy)]
+#[derive(Clone, Copy, Debug, PartialEq, Eq)]
 pub struct TimeOfCount {
     pub time: i64,
 }
 
-#[derive(Clone, Copy)]
-pub enum TimeAnswer {
-    Time(TimeOfCount),
-    Refused(Refusal),
-}
-
 // What time to count gives: an encoded count.
-#[derive(Clone, Copy)]
+#[derive(Clone, Copy, Debug, PartialEq, Eq)]
 pub struct CountAtTime {
     pub count: u64,
 }
 
-#[derive(Clone, Copy)]
-pub enum CountAnswer {
-    Count(CountAtTime),
-    Refused(Refusal),
-}
-
 // A stamp's encoded count, and its time.
-#[derive(Clone, Copy)]
+#[derive(Clone, Copy, Debug, PartialEq, Eq)]
 pub struct TimedStamp {
     pub count: u64,
     pub time: i64,
-}
-
-#[derive(Clone, Copy)]
-pub enum StampAnswer {
-    Stamp(TimedStamp),
-    Refused(Refusal),
-}
-
-// How many bytes were printed.
-#[derive(Clone, Copy)]
-pub enum PrintAnswer {
-    Length(usize),
-    Refused(Refusal),
-}
-
-// Whether a table steps back.
-#[derive(Clone, Copy)]
-pub enum StepsBackAnswer {
-    Yes,
-    No,
-    Refused(Refusal),
-}
-
-#[derive(Clone, Copy)]
-pub enum DoubleAnswer {
-    Double(f64),
-    Refused(Refusal),
 }

@@ -3,68 +3,39 @@ ghost use Rattle.std.specs.Prelude.{◌≤◌, length};
 ghost use Rattle.script_words.specs.Words.{LengthBy};
 
 use crate::numbers;
-use crate::numbers::Digit;
-
-#[derive(Clone, Copy)]
-pub enum ByteWord {
-    Length(usize),
-    Bad,
-}
-
-#[derive(Clone, Copy)]
-enum OneByte {
-    Spelled(u8),
-    Bad,
-}
 
 // How many bytes the line's last word spells, behind the blank at `at`; they are put at the front of `out`, which has room
 // for the most that there may be. No bytes at all is `.`.
-pub fn read_bytes(line: &[u8], at: usize, out: &mut [u8]) -> ByteWord
+pub fn read_bytes(line: &[u8], at: usize, out: &mut [u8]) -> Option<usize>
     requires { at ≤ length line.now }
     ensures { LengthBy (length out.old) result }
 {
-    if line.len() - at < 2 {
-        return ByteWord::Bad;
+    let (blank, word) = line[at..].split_first()?;
+    if *blank != b' ' || word.is_empty() {
+        return None;
     }
-    if line[at] != b' ' {
-        return ByteWord::Bad;
+    if word == b".".as_slice() {
+        return Some(0);
     }
-    if line.len() - at == 2 {
-        if line[at + 1] == b'.' {
-            return ByteWord::Length(0);
-        }
-    }
-    pairs(&line[at + 1..], out)
+    pairs(word, out)
 }
 
 // Two hexadecimal digits for each byte.
-fn pairs(word: &[u8], out: &mut [u8]) -> ByteWord
+fn pairs(word: &[u8], out: &mut [u8]) -> Option<usize>
     ensures { LengthBy (length out.old) result }
 {
     let n = word.len() / 2;
-    if n * 2 != word.len() {
-        return ByteWord::Bad;
+    if n * 2 != word.len() || out.len() < n {
+        return None;
     }
-    if out.len() < n {
-        return ByteWord::Bad;
+    for i in 0..n {
+        out[i] = pair(word[2 * i], word[2 * i + 1])?;
     }
-    let mut i = 0;
-    while i < n {
-        let OneByte::Spelled(byte) = pair(word[2 * i], word[2 * i + 1]) else {
-            return ByteWord::Bad;
-        };
-        out[i] = byte;
-        i += 1;
-    }
-    ByteWord::Length(n)
+    Some(n)
 }
 
-fn pair(high: u8, low: u8) -> OneByte {
-    let Digit::Worth(above) = numbers::digit_of(high, 16) else {
-        return OneByte::Bad;
-    };
-    let Digit::Worth(rest) = numbers::digit_of(low, 16) else {
-        return OneByte::Bad;
-    };
-    OneByte::Spelled(above * 16 + rest)
+fn pair(high: u8, low: u8) -> Option<u8> {
+    let above = numbers::digit_of(high, 16)?;
+    let rest = numbers::digit_of(low, 16)?;
+    Some(above * 16 + rest)
 }

@@ -1,18 +1,12 @@
 // The number that a word spells.
-ghost use Rattle.std.specs.Prelude.{◌≡◌, ◌≤◌, ◌<◌, ◌%◌, min, length};
-ghost use Rattle.script_words.specs.Words.{UpTo, largest, worth};
+ghost use Rattle.std.specs.Prelude.{◌≡◌, ◌≤◌, ◌%◌, min, length, IfSome};
+ghost use Rattle.script_words.specs.Words.{UpTo, largest};
 
 // A number and the place after it.
 #[derive(Clone, Copy)]
-pub enum Word {
-    Number(u64, usize),
-    Bad,
-}
-
-#[derive(Clone, Copy)]
-pub enum Digit {
-    Worth(u8),
-    None,
+pub struct Word {
+    pub value: u64,
+    pub next: usize,
 }
 
 // The ordinal of the time 0.
@@ -26,7 +20,7 @@ const INFINITY: u64 = 0x7ff0_0000_0000_0000;
 const BITS_DIGITS: usize = 16;
 
 // A number from 0 to `limit`, leading zeros allowed.
-pub fn decimal(line: &[u8], from: usize, limit: u64) -> Word
+pub fn decimal(line: &[u8], from: usize, limit: u64) -> Option<Word>
     requires from_in_bounds { from ≤ length line.now }
     requires le_limit { (16 ≤ limit) × (limit ≤ largest) }
     ensures { UpTo limit (length line.now) result }
@@ -35,114 +29,81 @@ pub fn decimal(line: &[u8], from: usize, limit: u64) -> Word
 }
 
 // The ordinal of a time, `-` in front of one below 0.
-pub fn time(line: &[u8], from: usize) -> Word
+pub fn time(line: &[u8], from: usize) -> Option<Word>
     requires { from ≤ length line.now }
     ensures { UpTo largest (length line.now) result }
 {
-    if from < line.len() {
-        if line[from] == b'-' {
-            return below_zero(line, from + 1);
-        }
+    if from < line.len() && line[from] == b'-' {
+        let word = decimal(line, from + 1, ZERO_TIME)?;
+        return Some(Word {
+            value: ZERO_TIME - word.value,
+            next: word.next,
+        });
     }
-    from_zero(line, from)
-}
-
-fn below_zero(line: &[u8], from: usize) -> Word
-    requires { from ≤ length line.now }
-    ensures { UpTo largest (length line.now) result }
-{
-    match decimal(line, from, ZERO_TIME) {
-        Word::Number(value, next) => Word::Number(ZERO_TIME - value, next),
-        Word::Bad => Word::Bad,
-    }
-}
-
-fn from_zero(line: &[u8], from: usize) -> Word
-    requires { from ≤ length line.now }
-    ensures { UpTo largest (length line.now) result }
-{
-    match decimal(line, from, ZERO_TIME - 1) {
-        Word::Number(value, next) => Word::Number(ZERO_TIME + value, next),
-        Word::Bad => Word::Bad,
-    }
+    let word = decimal(line, from, ZERO_TIME - 1)?;
+    Some(Word {
+        value: ZERO_TIME + word.value,
+        next: word.next,
+    })
 }
 
 // The 16 hexadecimal digits of a double's bits.
-pub fn bits(line: &[u8], from: usize) -> Word
+pub fn bits(line: &[u8], from: usize) -> Option<Word>
     requires { from ≤ length line.now }
     ensures { UpTo largest (length line.now) result }
 {
     if line.len() - from < BITS_DIGITS {
-        return Word::Bad;
+        return None;
     }
     digits(line, from, from + BITS_DIGITS, 16, u64::MAX, BITS_DIGITS)
 }
 
 // The number up to `limit` that the digits from `from` on spell, at least `least`, none of them at `end` or behind it.
-fn digits(line: &[u8], from: usize, end: usize, base: u64, limit: u64, least: usize) -> Word
+fn digits(line: &[u8], from: usize, end: usize, base: u64, limit: u64, least: usize) -> Option<Word>
     requires from_le_end { (from ≤ end) × (end ≤ length line.now) }
     requires le_base { (10 ≤ base) × (base ≤ 16) }
     requires le_limit { (16 ≤ limit) × (limit ≤ largest) }
     ensures { UpTo limit (length line.now) result }
 {
     let mut value: u64 = 0;
-    let mut i = from;
-    while i < end {
-        let Digit::Worth(worth) = digit_of(line[i], base) else {
+    for i in from..end {
+        let Some(worth) = digit_of(line[i], base) else {
             return spelled(from, i, value, least);
         };
-        let d = wide(worth);
+        let d = u64::from(worth);
         if (limit - d) / base < value {
-            return Word::Bad;
+            return None;
         }
         value = value * base + d;
-        i += 1;
     }
-    spelled(from, i, value, least)
+    spelled(from, end, value, least)
 }
 
 // At least so many digits stand before `next`.
-fn spelled(from: usize, next: usize, value: u64, least: usize) -> Word
+fn spelled(from: usize, next: usize, value: u64, least: usize) -> Option<Word>
     requires { from ≤ next }
     ensures { UpTo value next result }
 {
     if next - from < least {
-        return Word::Bad;
+        return None;
     }
-    Word::Number(value, next)
+    Some(Word { value, next })
 }
 
 // A digit below `base`, above 9 a lower-case letter.
-pub fn digit_of(byte: u8, base: u64) -> Digit
-    ensures { worth result ≤ 15 }
+pub fn digit_of(byte: u8, base: u64) -> Option<u8>
+    ensures { IfSome result (λ worth. worth ≤ 15) }
 {
-    if b'0' <= byte {
-        if byte <= b'9' {
-            return below(byte - b'0', base);
-        }
+    let worth = match byte {
+        b'0'..=b'9' => byte - b'0',
+        b'a'..=b'f' => byte - b'a' + 10,
+        _ => return None,
+    };
+    if u64::from(worth) < base {
+        Some(worth)
+    } else {
+        None
     }
-    if b'a' <= byte {
-        if byte <= b'f' {
-            return below(byte - b'a' + 10, base);
-        }
-    }
-    Digit::None
-}
-
-fn below(value: u8, base: u64) -> Digit
-    requires { value ≤ 15 }
-    ensures { worth result ≤ 15 }
-{
-    if wide(value) < base {
-        return Digit::Worth(value);
-    }
-    Digit::None
-}
-
-fn wide(value: u8) -> u64
-    ensures { result ≡ value }
-{
-    value as u64
 }
 
 // A number of the form b.
@@ -170,16 +131,13 @@ pub fn word_of(number: u64) -> u32
 pub fn lent_length(number: u64, most: u64) -> usize
     ensures { result ≡ min number most }
 {
-    if number < most {
-        return number as usize;
-    }
-    most as usize
+    number.min(most) as usize
 }
 
 // Every pattern above that of infinity, the sign aside, means NaN.
 pub fn double_of(pattern: u64) -> f64 {
     if INFINITY < pattern % SIGN {
-        return 0.0 / 0.0;
+        return f64::NAN;
     }
     f64::from_bits(pattern)
 }

@@ -6,7 +6,6 @@ ghost use Rattle.rules.specs.Segments.{line_at};
 ghost use Rattle.rules.specs.Time.{ticks_since};
 ghost use Rattle.segment_line.specs.Line.{ToTime, ToTicks};
 
-use quotient::Quotient;
 use rules::Segment;
 
 // The time that the line reaches at the count `e`, rounded up. Neither quotient here is ever too large.
@@ -16,8 +15,8 @@ pub fn time_on(unit: u64, segment: Segment, e: u64) -> i64
 {
     let time = segment.time;
     match quotient::div_up(segment.rate, e - segment.count, unit) {
-        Quotient::Fits(q) => signed::later(time, q),
-        Quotient::TooLarge => time,
+        Some(q) => signed::later(time, q),
+        None => time,
     }
 }
 
@@ -27,7 +26,7 @@ pub fn ticks_on(unit: u64, segment: Segment, t: i64) -> u64
     ensures { result ≡ ticks_since unit segment t }
 {
     match quotient::div_down(signed::elapsed(segment.time, t), unit, segment.rate) {
-        Quotient::Fits(q) => q,
-        Quotient::TooLarge => 0,
+        Some(q) => q,
+        None => 0,
     }
 }

@@ -7,13 +7,7 @@ ghost use Rattle.rules.specs.Time.{segment_of, segment_at};
 ghost use Rattle.segment_search.specs.Found.{found};
 ghost use Rattle.segment_search.specs.Growing.{CountsGrow, TimesGrow};
 
-#[derive(Clone, Copy)]
-pub enum Found {
-    Row(usize),
-    Nothing,
-}
-
-pub fn row_of_count(counts: &[u64], e: u64) -> Found
+pub fn row_of_count(counts: &[u64], e: u64) -> Option<usize>
     requires { CountsGrow counts.now }
     ensures { found result ≡ segment_of counts.now e }
 {
@@ -30,7 +24,7 @@ pub fn row_of_count(counts: &[u64], e: u64) -> Found
     last_of(low)
 }
 
-pub fn row_of_time(times: &[i64], t: i64) -> Found
+pub fn row_of_time(times: &[i64], t: i64) -> Option<usize>
     requires { TimesGrow times.now }
     ensures { found result ≡ segment_at times.now t }
 {
@@ -48,11 +42,11 @@ pub fn row_of_time(times: &[i64], t: i64) -> Found
 }
 
 // The last of the rows that have begun.
-pub fn last_of(begun: usize) -> Found
+pub fn last_of(begun: usize) -> Option<usize>
     ensures { found result ≡ greatest_below begun }
 {
     if begun == 0 {
-        return Found::Nothing;
+        return None;
     }
-    Found::Row(begun - 1)
+    Some(begun - 1)
 }

@@ -2,7 +2,7 @@
 -- wherever they lie.
 use Prim.Native.Nat.{ℕ, ◌+◌, ◌-◌, ◌≤◌, ◌<◌, min}
 use mathlib.Core.Path.{◌≡◌, refl, sym, ◌∙◌}
-use mathlib.Core.Bool.{Bool, true, false, not, ◌&&◌, and-true}
+use mathlib.Core.Bool.{Bool, true, false, not, ◌&&◌}
 use mathlib.Core.List.{List}
 use mathlib.Core.Option.{some}
 use lib.IntN.{ℤ}
@@ -11,14 +11,11 @@ use lib.ListN.{length}
 use native.Mathlib.Omega.{arith}
 use native.Mathlib.Numerals.{add-one}
 use borrow.Author.Count.{below_more}
-use borrow.Author.Tests.{eq-eqb, ne_eqb, eqb-true, le-leb, lt-leb, leb-true, not-true, not-false}
-use Rattle.base.specs.Scans.{all_of}
+use borrow.Author.Tests.{eqb-true, leb-true, not-true, not-false}
 use Rattle.base.proofs.Scans.{first_not_is, first_not_none}
 use Rattle.base.proofs.Tests.{all_of_head, all_of_tail}
-use Rattle.rules.specs.declared.Refusal.{Refusal}
 use Rattle.rules.specs.declared.Segment.{Segment}
-use Rattle.rules.specs.Answer.{answer, refused, placed, unless_at}
-use Rattle.rules.specs.Limits.{most_segments}
+use Rattle.rules.specs.Answer.{answer, refused, placed, unless_at, Numbered}
 use Rattle.rules.specs.Segments.{Segments, segments, row_of, row_before, row_ok, follows, line_ok, segment_ok_at, segment_lengths_ok, segments_fault}
 use Rattle.segments.specs.Rows.{accepted_segments, lengths_ok, RowIn}
 use Rattle.segments.proofs.Ends.{inner_row, last_row, not_grown}
@@ -29,26 +26,8 @@ pub record RowsTo (unit total : ℕ) (cs : List ℕ) (ts : List ℤ) (rs : List 
   pub good : (j : ℕ) → j < i → segment_ok_at unit total (segments cs ts rs) j ≡ true
   pub after : follows (row_before (segments cs ts rs) i) (row_of (segments cs ts rs) i) ≡ true
 
--- each test of `lengths_ok`
+-- what `lengths_ok` says of the lists
 module _ (n m k : ℕ) where
-  pub other_times : (m ≡ n → ⊥) → false ≡ lengths_ok n m k
-  unfolding lengths_ok all_of
-  other_times h = rw (ne_eqb _ _ h)
-
-  module _ (tl : m ≡ n) where
-    pub other_rates : (k ≡ n → ⊥) → false ≡ lengths_ok n m k
-    unfolding lengths_ok all_of
-    other_rates h = rw (eq-eqb _ _ tl, ne_eqb _ _ h)
-
-    module _ (rl : k ≡ n) where
-      pub none_there : n < 1 → false ≡ lengths_ok n m k
-      unfolding lengths_ok all_of
-      none_there h = rw (eq-eqb _ _ tl, eq-eqb _ _ rl, lt-leb _ _ h)
-
-      pub length_test : 1 ≤ n → leb n most_segments ≡ lengths_ok n m k
-      unfolding lengths_ok all_of
-      length_test h = rw (eq-eqb _ _ tl, eq-eqb _ _ rl, le-leb _ _ h) (sym (and-true (leb n most_segments)))
-
   module _ {a : Bool} (lengths : a ≡ lengths_ok n m k) (good : not a ≡ false) where
     test_holds : lengths_ok n m k ≡ true
     test_holds = sym lengths ∙ not-false a good
@@ -86,7 +65,7 @@ module _ (unit total : ℕ) (cs : List ℕ) (ts : List ℤ) (rs : List ℕ) wher
 
   -- 3 at the place i is the answer
   abbrev Refuses : ℕ → Type 0
-  Refuses i = (r : Refusal) → r ≡ placed 3 i → refused r ≡ accepted_segments unit total (segments cs ts rs)
+  Refuses i = (r : Numbered) → r ≡ placed 3 i → refused r ≡ accepted_segments unit total (segments cs ts rs)
 
   -- row i before the last
   module _ (n : ℕ) (en : n ≡ length cs) (i : ℕ) (w : RowsTo unit total cs ts rs i) (more : i < n - 1) (row next : Segment) (e : row ≡ row_of (segments cs ts rs) i) (f : next ≡ row_of (segments cs ts rs) (i + 1)) {b : Bool} (test : b ≡ (row_ok unit row && line_ok unit row next.count)) where

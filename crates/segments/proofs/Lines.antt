@@ -1,5 +1,5 @@
 -- A rounded line against a time, as a comparison of two products.
-use Prim.Native.Nat.{ℕ, ◌-◌, ◌*◌, ◌^◌, ◌≤◌, ◌<◌, zero-le}
+use Prim.Native.Nat.{ℕ, ◌-◌, ◌*◌, ◌≤◌, zero-le}
 use mathlib.Core.Path.{◌≡◌, sym, ◌∙◌}
 use mathlib.Core.Bool.{Bool, true, not}
 use lib.IntN.{ℤ}
@@ -10,39 +10,24 @@ use mir.Val.{SFits, to_z, of_z}
 use mir.Facts.{to_z-of_z}
 use native.Mathlib.Nat.{mul-zero}
 use native.Mathlib.Omega.{arith}
-use borrow.Author.Tests.{le-leb, leb-true}
+use borrow.Author.Tests.{le-leb}
 use Rattle.base.specs.Rounding.{round_up}
-use Rattle.base.specs.Signed.{elapsed, ordinal}
+use Rattle.base.specs.Signed.{elapsed}
 use Rattle.base.proofs.Rounding.{up_leb}
-use Rattle.base.proofs.Signed.{ordinal_le, ordinal_elapsed, before_not_after, later_within}
+use Rattle.base.proofs.Signed.{before_not_after, later_within}
 use Rattle.base.proofs.Tests.{all_of_head, all_of_tail}
-use Rattle.rules.specs.Limits.{earliest_time, latest_time}
+use Rattle.rules.specs.Limits.{latest_time}
 use Rattle.rules.specs.declared.Segment.{Segment}
 use Rattle.rules.specs.Segments.{row_ok, line_at, line_ok, overtakes}
 
--- a time within its limits is at most the latest, and near it
+-- a time within its limits is at most the latest
 late : (unit : ℕ) (s : Segment) → row_ok unit s ≡ true → le_z s.time latest_time ≡ true
 unfolding row_ok
 late unit s h = all_of_head _ _ (all_of_tail _ _ h)
 
-early : (unit : ℕ) (s : Segment) → row_ok unit s ≡ true → le_z earliest_time s.time ≡ true
-unfolding row_ok
-early unit s h = all_of_head _ _ h
-
 module _ (unit : ℕ) (s : Segment) (fits : SFits w64 s.time) (h : row_ok unit s ≡ true) where
   pub not_late : le_z (to_z w64 (of_z w64 s.time)) latest_time ≡ true
   not_late = rw (to_z-of_z fits) (late unit s h)
-
-  pub near : elapsed (to_z w64 (of_z w64 s.time)) latest_time < 2 ^ 63
-  near =
-      rw (to_z-of_z fits, ordinal_elapsed (2 ^ 63) s.time latest_time fits.sfits small (late unit s h))
-      (far (leb-true _ _ (sym (ordinal_le (2 ^ 63) earliest_time s.time (omega arith) fits.sfits) ∙ early unit s h)))
-    where
-      small : 4_000_000_000_000_000_000 < 2 ^ 63
-      small = omega arith
-
-      far : ordinal (2 ^ 63) earliest_time ≤ ordinal (2 ^ 63) s.time → ordinal (2 ^ 63) latest_time - ordinal (2 ^ 63) s.time < 2 ^ 63
-      far l = unfold ordinal in omega arith
 
 module _ (unit : ℕ) (s : Segment) (positive : 1 ≤ unit) where
   -- the line is at most z at the count e

@@ -2,15 +2,9 @@
 use Rattle.std.specs.Prelude.{ℕ, ◌+◌, ◌≤◌, ◌<◌, ◌≡◌, Bool, [], ◌∷◌, leb, eqb, length}
 use Rattle.base.specs.Scans.{all_of}
 use Rattle.rules.specs.Limits.{most_segments}
-use Rattle.rules.specs.Answer.{Answer, answer, refused, unless_at}
+use Rattle.rules.specs.Answer.{Answer, answer, unless_at}
 use Rattle.rules.specs.Segments.{Segments, segments_in, segments_fault}
 use Rattle.rules.specs.Facts.{Grows}
-use Rattle.segments.specs.declared.CheckAnswer.{CheckAnswer}
-use Rattle.segments.specs.declared.CheckAnswer.TheVariants as Of
-
-abbrev pub check_answer : CheckAnswer → Answer (Unit {0})
-check_answer Of.Accepted = answer tt
-check_answer (Of.Refused k) = refused k
 
 -- 3, or nothing is wrong
 unfoldable pub accepted_segments : ℕ → ℕ → Segments → Answer (Unit {0})

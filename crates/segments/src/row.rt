@@ -27,10 +27,7 @@ pub fn row_ok(unit: u64, row: Segment, end: u64) -> bool
     requires { 1 ≤ unit }
     ensures { result ≡ (row_ok unit row && line_ok unit row end) }
 {
-    if !in_limits(unit, row) {
-        return false;
-    }
-    line_ok(unit, row, end)
+    in_limits(unit, row) && line_ok(unit, row, end)
 }
 
 // The same of the last row, which ends at the total: its count is at most that.
@@ -38,36 +35,26 @@ pub fn last_row_ok(unit: u64, row: Segment, total: u64) -> bool
     requires { 1 ≤ unit }
     ensures { result ≡ ((row_ok unit row && line_ok unit row total) && leb row.count total) }
 {
-    if total < row.count {
-        return false;
-    }
-    row_ok(unit, row, total)
+    row.count <= total && row_ok(unit, row, total)
 }
 
 // Time and rate are within their limits.
+#[tactic(auto, unfolding(rules::specs::Segments::row_ok, base::specs::Scans::all_of))]
 fn in_limits(unit: u64, row: Segment) -> bool
     ensures { result ≡ row_ok unit row }
 {
-    if row.time < EARLIEST_TIME {
-        return false;
-    }
-    if LATEST_TIME < row.time {
-        return false;
-    }
-    if row.rate < unit {
-        return false;
-    }
-    row.rate <= LARGEST_RATE
+    EARLIEST_TIME <= row.time
+        && row.time <= LATEST_TIME
+        && unit <= row.rate
+        && row.rate <= LARGEST_RATE
 }
 
 // Count and time are after those of the row before.
+#[tactic(auto, unfolding(rules::specs::Segments::follows, base::specs::Scans::all_of))]
 pub fn grows(earlier: Segment, row: Segment) -> bool
     ensures { result ≡ follows (some earlier) row }
 {
-    if row.count <= earlier.count {
-        return false;
-    }
-    earlier.time < row.time
+    earlier.count < row.count && earlier.time < row.time
 }
 
 // The line of a row within its limits is at most the latest time at the count `end`.
@@ -76,15 +63,13 @@ fn line_ok(unit: u64, row: Segment, end: u64) -> bool
     requires row_value { row_ok unit row ≡ true }
     ensures { result ≡ line_ok unit row end }
 {
-    if end <= row.count {
-        return true;
-    }
-    product_at_most(
-        row.rate,
-        end - row.count,
-        signed::difference(row.time, LATEST_TIME),
-        unit,
-    )
+    end <= row.count
+        || product_at_most(
+            row.rate,
+            end - row.count,
+            signed::elapsed(row.time, LATEST_TIME),
+            unit,
+        )
 }
 
 // Whether the line, rounded up, at the next row's count is later than the next row's time.
@@ -95,7 +80,7 @@ pub fn overtakes(unit: u64, row: Segment, next: Segment) -> bool
 {
     !product_at_most(
         row.rate,
-        wide::less(next.count, row.count),
+        next.count.saturating_sub(row.count),
         signed::elapsed(row.time, next.time),
         unit,
     )

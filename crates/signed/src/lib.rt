@@ -7,54 +7,41 @@ ghost use Rattle.std.specs.Int.Signed.{le_z, mag};
 ghost use Rattle.base.specs.Signed.{ordinal as ordinal_of, later as later_of, elapsed as elapsed_of};
 
 // How much later `to` is than `from`.
+#[tactic(auto, unfolding(base::specs::Signed::elapsed))]
 pub fn elapsed(from: i64, to: i64) -> u64
     requires { le_z from to ≡ true }
     ensures { result ≡ elapsed_of from to }
 {
-    ordinal(to) - ordinal(from)
-}
-
-// The same of numbers that are near enough for their difference to be an i64.
-pub fn difference(from: i64, to: i64) -> u64
-    requires { (le_z from to ≡ true) × (elapsed_of from to < 2 ^ 63) }
-    ensures { result ≡ elapsed_of from to }
-{
-    (to - from) as u64
+    to.abs_diff(from)
 }
 
 // `distance` after `time`.
+#[tactic(auto, using(crate::proofs::Words::sum_later))]
 pub fn later(time: i64, distance: u64) -> i64
     requires { mag (later_of time distance) < 2 ^ 63 }
     ensures { result ≡ later_of time distance }
 {
-    from_ordinal(ordinal(time) + distance)
+    time.wrapping_add_unsigned(distance)
 }
 
 // The number without its sign.
 pub fn magnitude(x: i64) -> u64
     ensures { result ≡ nat_abs x }
 {
-    if x < 0 {
-        return (!x) as u64 + 1;
-    }
-    x as u64
+    x.unsigned_abs()
 }
 
 // The distance from the least i64.
+#[tactic(auto, using(crate::proofs::Words::from_least))]
 pub fn ordinal(x: i64) -> u64
     ensures { result ≡ ordinal_of (2 ^ 63) x }
 {
-    if x < 0 {
-        return 9223372036854775807 - (!x) as u64;
-    }
-    9223372036854775808 + x as u64
+    x.abs_diff(i64::MIN)
 }
 
+#[tactic(auto, using(crate::proofs::Words::sum_ordinal))]
 pub fn from_ordinal(k: u64) -> i64
     ensures { ordinal_of (2 ^ 63) result ≡ k }
 {
-    if k < 9223372036854775808 {
-        return !((9223372036854775807 - k) as i64);
-    }
-    (k - 9223372036854775808) as i64
+    i64::MIN.wrapping_add_unsigned(k)
 }

@@ -3,7 +3,6 @@
 #![tactic(auto)]
 
 ghost use Rattle.std.specs.Prelude.{◌≡◌, ◌+◌, ◌-◌, ◌^◌, ◌<◌, ◌≤◌, min, length, take, replicate, IfOk, OnOk, IfSome};
-ghost use Rattle.rules.specs.Answer.{stamp_answer};
 ghost use Rattle.rules.specs.Examples.{layout_a};
 ghost use Rattle.lines.specs.Steps.{line_left};
 ghost use Rattle.decimal.specs.Writing.{Written};
@@ -12,11 +11,12 @@ ghost use Rattle.std.specs.Io.KnownBytes.{Appends};
 ghost use Rattle.line_output.specs.Pieces.{piece_answers};
 ghost use Rattle.stamp_lines.specs.Output.{line_stamp, answer_line, stamp_output, longest_answer};
 ghost use Rattle.stamp_lines.specs.Pieces.{line_buffer, ToTheEnd};
+ghost use Rattle.rules.specs.Answer.{answer_of};
 
 use crate::put::{LONGEST_ANSWER, put_stamp};
 use line_output::kept_after;
 use lines::LineStep;
-use rules::{Layout, StampAnswer};
+use rules::{Layout, Refusal, TimedStamp};
 use stamp_time::time_of_stamp;
 use std::io;
 use std::io::{Read, Write};
@@ -175,8 +175,9 @@ pub fn answer_last(line: &[u8], kept: usize, out: &mut [u8]) -> usize
 }
 
 // A line under table A. One of 97 bytes stands for every line over 96 bytes: the stamp reader refuses it 4.
-fn answer(line: &[u8]) -> StampAnswer
-    ensures { stamp_answer result ≡ line_stamp line.now }
+#[tactic(auto, unfolding(crate::specs::Output::line_stamp, rules::specs::Examples::partitions_a, rules::specs::Examples::segments_a))]
+fn answer(line: &[u8]) -> Result<TimedStamp, Refusal>
+    ensures { answer_of result ≡ line_stamp line.now }
 {
     let starts = [0u64, 200];
     let ends = [500u64, 900];
@@ -186,6 +187,7 @@ fn answer(line: &[u8]) -> StampAnswer
     time_of_stamp(table_a(), &starts, &ends, &counts, &times, &rates, line)
 }
 
+#[tactic(auto, unfolding(rules::specs::Examples::layout_a))]
 fn table_a() -> Layout
     ensures { result ≡ layout_a }
 {

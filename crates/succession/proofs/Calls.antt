@@ -1,34 +1,43 @@
 -- From what `accept` answers of each table to the two public calls.
-use Prim.Native.Nat.{ℕ}
-use mathlib.Core.Path.{◌≡◌, refl, sym, ◌∙◌}
+use Rattle.rules.specs.declared.refusal.Refusal.{Refusal}
+use Rattle.std.specs.Prelude.{Result, Ok, Err}
+use Rattle.std.specs.Result.{MatchResult, IsErrAnd}
+use Rattle.layouts.specs.declared.Measured.{Measured}
+use mathlib.Core.Path.{◌≡◌, refl, sym, ap, ◌∙◌}
 use Rattle.rules.specs.declared.Layout.{Layout}
-use Rattle.rules.specs.declared.Refusal.{Refusal}
-use Rattle.rules.specs.Answer.{answer, refused, and_then}
+use Rattle.rules.specs.Answer.{Answer, answer, refused, and_then, as_numbered, answer_of}
 use Rattle.rules.specs.Layout.{product_of}
 use Rattle.rules.specs.Partitions.{Partitions}
 use Rattle.rules.specs.Segments.{Segments}
 use Rattle.rules.proofs.Accepted.{layout_accepted, partitions_accepted, segments_accepted}
-use Rattle.layouts.specs.declared.MeasureAnswer.{MeasureAnswer}
-use Rattle.layouts.specs.Measure.{measure_answer, measure_of}
+use Rattle.layouts.specs.Measure.{measure_of}
 use Rattle.tables.specs.declared.Basis.{Basis}
-use Rattle.tables.specs.declared.Acceptance.{Acceptance}
-use Rattle.tables.specs.declared.Acceptance.TheVariants.{Accepted, Refused}
-use Rattle.tables.specs.Accept.{acceptance, table_basis, TableFacts}
+use Rattle.tables.specs.Accept.{table_basis, TableFacts}
 use Rattle.tables.proofs.Accepted.{table_refused, table_accepted}
 use Rattle.versions.specs.Versions.{Table}
 use Rattle.versions.proofs.Demand3.{through_three}
-use Rattle.succession_rules.specs.OfTwo.{OfTwo, answered, older_refused, newer_refused, checked, refused_first}
-use Rattle.succession_rules.specs.Succession.{Verdict, verdict, succession}
-use Rattle.succession_rules.specs.Horizon.{horizon_in, horizon_of}
+use Rattle.succession_rules.specs.declared.TableRefusal.{TableRefusal}
+use Rattle.succession_rules.specs.declared.TableRefusal.TheVariants as Refused
+use Rattle.succession_rules.specs.OfTwo.{answered, checked, refused_first, of_two, refused_table}
+use Rattle.succession.specs.Both.{BothFacts}
+
+-- what was there before `map_err`
+pub told_ok : {A E D : Type 0} (r : Result A E) (Q : E → D → Type 0) (b : A) → MatchResult r (λ x. ◌≡◌ {A = Result A D} (Ok b) (Ok x)) (λ e. IsErrAnd {T = A} {E = D} (Ok b) (Q e)) → r ≡ Ok b
+told_ok (Ok x) Q b h = cc
+told_ok (Err e) Q b h = absurd h
+
+pub told_err : {A E D : Type 0} (r : Result A E) (Q : E → D → Type 0) (k : D) → MatchResult r (λ x. ◌≡◌ {A = Result A D} (Err k) (Ok x)) (λ e. IsErrAnd {T = A} {E = D} (Err k) (Q e)) → (e : E) × (r ≡ Err e) × Q e k
+told_err (Ok x) Q k h = cc
+told_err (Err e) Q k h = (e, refl, h)
 
 -- what accepting a table says of its check
-module _ (t : Table) (m : MeasureAnswer) (w : measure_answer m ≡ measure_of t.layout) (r : Acceptance)
-    (e : acceptance r ≡ and_then (measure_answer m) (table_basis t.partitions t.segments)) where
-  pub checked_refused : (k : Refusal) → r ≡ Refused k → checked t ≡ refused k
+module _ (t : Table) (m : Result Measured Refusal) (w : answer_of m ≡ measure_of t.layout) (r : Result Basis Refusal)
+    (e : answer_of r ≡ and_then (answer_of m) (table_basis t.partitions t.segments)) where
+  pub checked_refused : (k : Refusal) → r ≡ Err k → checked t ≡ refused (as_numbered k)
   unfolding checked
   checked_refused k h = sym (table_refused t.layout t.partitions m w r t.segments e k (answer t) h)
 
-  module _ (b : Basis) (h : r ≡ Accepted b) where
+  module _ (b : Basis) (h : r ≡ Ok b) where
     pub checked_accepted : checked t ≡ answer t
     unfolding checked
     checked_accepted = sym (table_accepted t.layout t.partitions m w r t.segments e b h (answer t) (answer t) refl)
@@ -46,27 +55,34 @@ checked_facts l p g b f =
     })
     _
 
-module _ (older newer : Table) where
-  pub succession_older : (k : Refusal) → checked older ≡ refused k → older_refused k ≡ succession older newer
-  unfolding succession refused_first
-  succession_older k o = rw o
+-- the older's refusal, the newer's where the older is accepted, and what is answered where both are
+module _ {A : Type 0} (older newer : Table) (a : A) where
+  pub older_out : (k : Refusal) → checked older ≡ refused (as_numbered k) → refused_table (Refused.Older k) ≡ of_two older newer a
+  unfolding refused_first
+  older_out k o = rw o
 
-  pub succession_newer : (k : Refusal) → checked older ≡ answer older → checked newer ≡ refused k → newer_refused k ≡ succession older newer
-  unfolding succession refused_first
-  succession_newer k o n = rw (o, n)
+  pub newer_out : (k : Refusal) → checked older ≡ answer older → checked newer ≡ refused (as_numbered k) → refused_table (Refused.Newer k) ≡ of_two older newer a
+  unfolding refused_first
+  newer_out k o n = rw (o, n)
 
-  pub succession_both : (x : OfTwo Verdict) → checked older ≡ answer older → checked newer ≡ answer newer → x ≡ answered (verdict older newer) → x ≡ succession older newer
-  unfolding succession refused_first
-  succession_both x o n e = e ∙ rw (o, n)
+  pub both_in : checked older ≡ answer older → checked newer ≡ answer newer → answered a ≡ of_two older newer a
+  unfolding refused_first
+  both_in o n = rw (o, n)
 
-  pub horizon_older : (k : Refusal) → checked older ≡ refused k → older_refused k ≡ horizon_of older newer
-  unfolding horizon_of refused_first
-  horizon_older k o = rw o
+-- whatever is asked of the two, they are refused alike
+pub refused_alike : {A B : Type 0} (older newer : Table) (a : A) (b : B) (k : TableRefusal) → refused_table k ≡ of_two older newer a → refused_table k ≡ of_two older newer b
+unfolding refused_first
+refused_alike older newer a b k h = by_checks (checked older) (checked newer) k h
+  where
+    by_checks : (x y : Answer Table) (k : TableRefusal) → refused_table k ≡ refused_first x y a → refused_table k ≡ refused_first x y b
+    by_checks (refused j) y (Refused.Older k) h = cc
+    by_checks (refused j) y (Refused.Newer k) h = cc
+    by_checks (answer o) (refused j) (Refused.Older k) h = cc
+    by_checks (answer o) (refused j) (Refused.Newer k) h = cc
+    by_checks (answer o) (answer n) (Refused.Older k) h = cc
+    by_checks (answer o) (answer n) (Refused.Newer k) h = cc
 
-  pub horizon_newer : (k : Refusal) → checked older ≡ answer older → checked newer ≡ refused k → newer_refused k ≡ horizon_of older newer
-  unfolding horizon_of refused_first
-  horizon_newer k o n = rw (o, n)
-
-  pub horizon_both : (r : ℕ) → checked older ≡ answer older → checked newer ≡ answer newer → r ≡ horizon_in older newer → answered r ≡ horizon_of older newer
-  unfolding horizon_of refused_first
-  horizon_both r o n e = rw (o, n, e)
+-- the facts of both, and the value
+pub both_answered : {A : Type 0} (older newer : Table) (b : Basis × Basis) (x a : A) → BothFacts older newer b → x ≡ a → answered x ≡ of_two older newer a
+both_answered older newer b x a f e =
+    ap answered e ∙ both_in older newer a (checked_facts older.layout older.partitions older.segments b.0 f.of_older) (checked_facts newer.layout newer.partitions newer.segments b.1 f.of_newer)

@@ -3,8 +3,7 @@ use Prim.Native.Nat.{ℕ}
 use native.Mathlib.Omega.{arith}
 use mathlib.Core.Path.{◌≡◌, refl, sym}
 use Rattle.base.specs.Scans.{among}
-use Rattle.rules.specs.declared.Refusal.{Refusal}
-use Rattle.rules.specs.Answer.{Answer, answer, refused}
+use Rattle.rules.specs.Answer.{Answer, answer, refused, Numbered}
 use Rattle.rules.specs.Layout.{layout_ok, product_of, unit_of}
 use Rattle.rules.specs.Partitions.{partitions_fault, total_of}
 use Rattle.rules.specs.Segments.{segments_fault}
@@ -42,13 +41,13 @@ table_checked t =
 
 module _ {A : Type 0} where
   -- no two of the three are equal
-  clash_older : {k : Refusal} {b : A} → ◌≡◌ {A = OfTwo A} (older_refused k) (answered b) → ⊥
+  clash_older : {k : Numbered} {b : A} → ◌≡◌ {A = OfTwo A} (older_refused k) (answered b) → ⊥
   clash_older h = let z : ◌≡◌ {A = ℕ} 0 1 = cc in omega arith
 
-  clash_newer : {k : Refusal} {b : A} → ◌≡◌ {A = OfTwo A} (newer_refused k) (answered b) → ⊥
+  clash_newer : {k : Numbered} {b : A} → ◌≡◌ {A = OfTwo A} (newer_refused k) (answered b) → ⊥
   clash_newer h = let z : ◌≡◌ {A = ℕ} 0 1 = cc in omega arith
 
-  clash_both : {k j : Refusal} → ◌≡◌ {A = OfTwo A} (newer_refused k) (older_refused j) → ⊥
+  clash_both : {k j : Numbered} → ◌≡◌ {A = OfTwo A} (newer_refused k) (older_refused j) → ⊥
   clash_both h = let z : ◌≡◌ {A = ℕ} 0 1 = cc in omega arith
 
   first_answers : (x y : Answer Table) (a b : A) → refused_first x y a ≡ answered b → (o : Table) × (n : Table) × (x ≡ answer o) × (y ≡ answer n) × (a ≡ b)
@@ -57,13 +56,13 @@ module _ {A : Type 0} where
   first_answers (answer o) (refused k) a b h = absurd (clash_newer h)
   first_answers (refused k) y a b h = absurd (clash_older h)
 
-  first_older : (x y : Answer Table) (a : A) (k : Refusal) → refused_first x y a ≡ older_refused k → x ≡ refused k
+  first_older : (x y : Answer Table) (a : A) (k : Numbered) → refused_first x y a ≡ older_refused k → x ≡ refused k
   unfolding refused_first
   first_older (answer o) (answer n) a k h = absurd (clash_older (sym h))
   first_older (answer o) (refused j) a k h = absurd (clash_both h)
   first_older (refused j) y a k h = let same : j ≡ k = cc in rw same
 
-  first_newer : (x y : Answer Table) (a : A) (k : Refusal) → refused_first x y a ≡ newer_refused k → (o : Table) × (x ≡ answer o) × (y ≡ refused k)
+  first_newer : (x y : Answer Table) (a : A) (k : Numbered) → refused_first x y a ≡ newer_refused k → (o : Table) × (x ≡ answer o) × (y ≡ refused k)
   unfolding refused_first
   first_newer (answer o) (answer n) a k h = absurd (clash_newer (sym h))
   first_newer (answer o) (refused j) a k h = let same : j ≡ k = cc in (o, refl, rw same)
@@ -79,11 +78,11 @@ module _ {A : Type 0} where
     unfolding refused_first
     both_answer b o n e = rw (checked_passes older o, checked_passes newer n, e)
 
-    older_first : (k : Refusal) → checked older ≡ refused k → of_two older newer a ≡ older_refused k
+    older_first : (k : Numbered) → checked older ≡ refused k → of_two older newer a ≡ older_refused k
     unfolding refused_first
     older_first k e = rw e
 
-    then-newer : (k : Refusal) → Accepted older → checked newer ≡ refused k → of_two older newer a ≡ newer_refused k
+    then-newer : (k : Numbered) → Accepted older → checked newer ≡ refused k → of_two older newer a ≡ newer_refused k
     unfolding refused_first
     then-newer k o e = rw (checked_passes older o, e)
 

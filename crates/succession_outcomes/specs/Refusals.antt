@@ -1,7 +1,6 @@
 -- Which table is refused, and with what: whatever is asked of the two, refused exactly where one is not accepted.
 use Rattle.std.specs.Prelude.{ℕ, ◌≡◌, List, [], ◌∷◌, ◌↔◌}
-use Rattle.rules.specs.declared.Refusal.{Refusal}
-use Rattle.rules.specs.Answer.{answer, refused}
+use Rattle.rules.specs.Answer.{answer, refused, Numbered}
 use Rattle.outcomes.specs.Refusals.{has_place, OnlyRefuses}
 use Rattle.versions.specs.Versions.{Table, Accepted}
 use Rattle.succession_rules.specs.OfTwo.{answered, older_refused, newer_refused, checked, of_two}
@@ -18,5 +17,5 @@ pub record TableChecked (t : Table) : Type 0 where
 -- of two: what is answered, the older's refusal, and the newer's where the older is accepted
 pub record RefusedExactly {A : Type 0} (older newer : Table) (a : A) : Type 0 where
   pub answers : (b : A) → (of_two older newer a ≡ answered b) ↔ (Accepted older × Accepted newer × (a ≡ b))
-  pub older_out : (k : Refusal) → (of_two older newer a ≡ older_refused k) ↔ (checked older ≡ refused k)
-  pub newer_out : (k : Refusal) → (of_two older newer a ≡ newer_refused k) ↔ (Accepted older × (checked newer ≡ refused k))
+  pub older_out : (k : Numbered) → (of_two older newer a ≡ older_refused k) ↔ (checked older ≡ refused k)
+  pub newer_out : (k : Numbered) → (of_two older newer a ≡ newer_refused k) ↔ (Accepted older × (checked newer ≡ refused k))

@@ -1,5 +1,4 @@
--- Laws of what is kept: a scan of rows, layouts, partitions, segments.
+-- Laws of what is kept: a scan of rows, layouts, segments.
 pub mod Scanned
 pub mod Layouts
-pub mod Partitions
 pub mod Segments

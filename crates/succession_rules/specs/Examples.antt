@@ -2,8 +2,7 @@
 -- and refusals come. `smallest` of versions is modulus 3, partition 0..1, segment (0, 0, 1000).
 use Rattle.std.specs.Prelude.{ℕ, ◌≡◌, refl, List, [], ◌∷◌, map, ℤ, pos, negsuc}
 use Rattle.rules.specs.declared.Layout.{Layout}
-use Rattle.rules.specs.declared.Refusal.{Refusal}
-use Rattle.rules.specs.Answer.{numbered, placed}
+use Rattle.rules.specs.Answer.{numbered, placed, Numbered}
 use Rattle.rules.specs.Partitions.{partitions}
 use Rattle.rules.specs.Segments.{segments}
 use Rattle.rules.specs.Examples.{layout_a, partitions_a}
@@ -31,10 +30,10 @@ abbrev pub no : Table → Table → Condition → ℕ → ℕ → Case
 no o n c i h = record { older = o; newer = n; succession_is = answered (fails (failure c i)); horizon_is = answered h }
 
 -- one of the two is refused
-abbrev pub older : Table → Table → Refusal → Case
+abbrev pub older : Table → Table → Numbered → Case
 older o n k = record { older = o; newer = n; succession_is = older_refused k; horizon_is = older_refused k }
 
-abbrev pub newer : Table → Table → Refusal → Case
+abbrev pub newer : Table → Table → Numbered → Case
 newer o n k = record { older = o; newer = n; succession_is = newer_refused k; horizon_is = newer_refused k }
 
 -- table A with other segments

@@ -5,9 +5,7 @@ use Rattle.base.specs.Scans.{is_none}
 use Rattle.rules.specs.Partitions.{total_of}
 use Rattle.rules.specs.Segments.{Segments, segments_in}
 use Rattle.versions.specs.Versions.{Table}
-use Rattle.succession_rules.specs.declared.HorizonAnswer.{HorizonAnswer}
-use Rattle.succession_rules.specs.declared.HorizonAnswer.TheVariants as Horizons
-use Rattle.succession_rules.specs.OfTwo.{OfTwo, answered, older_refused, newer_refused, of_two}
+use Rattle.succession_rules.specs.OfTwo.{OfTwo, of_two}
 use Rattle.succession_rules.specs.Kept.{row_or, same_layout, partition_lost, segment_lost}
 
 -- the first row in which the two lists of segments differ, also where one has ended: that many rows they share
@@ -35,9 +33,3 @@ horizon_in older newer = cond (stamps_kept older newer) (agree_below (total_of o
 -- The call.
 unfoldable pub horizon_of : Table → Table → OfTwo ℕ
 horizon_of older newer = of_two older newer (horizon_in older newer)
-
--- The value for each case of the code's answer.
-abbrev pub horizon_answer : HorizonAnswer → OfTwo ℕ
-horizon_answer (Horizons.Horizon e) = answered e
-horizon_answer (Horizons.OlderRefused k) = older_refused k
-horizon_answer (Horizons.NewerRefused k) = newer_refused k

@@ -1,6 +1,6 @@
 -- Whether a newer table succeeds an older one: "yes, where demand 3's hypotheses hold with 'nowhere steps back' asked of the seam alone; else the
 -- first that fails, in the order layout, partition, segment, further, seam, with its row (the first that fails, 0 for the layout)".
-use Rattle.std.specs.Prelude.{ℕ}
+use Rattle.std.specs.Prelude.{ℕ, Result, Ok, Err}
 use Rattle.std.proofs.Math.Option.{Option, none, some}
 use Rattle.rules.specs.Answer.{fails_at}
 use Rattle.rules.specs.Layout.{unit_of}
@@ -11,9 +11,7 @@ use Rattle.versions.specs.Seam.{seam_of}
 use Rattle.succession_rules.specs.declared.Condition.{Condition}
 use Rattle.succession_rules.specs.declared.Condition.TheVariants as Asked
 use Rattle.succession_rules.specs.declared.Failure.{Failure}
-use Rattle.succession_rules.specs.declared.SuccessionAnswer.{SuccessionAnswer}
-use Rattle.succession_rules.specs.declared.SuccessionAnswer.TheVariants as Successions
-use Rattle.succession_rules.specs.OfTwo.{OfTwo, answered, older_refused, newer_refused, of_two}
+use Rattle.succession_rules.specs.OfTwo.{OfTwo, of_two}
 use Rattle.succession_rules.specs.Kept.{same_layout, partition_lost, segment_lost, further_low, seam_back}
 
 abbrev pub failure : Condition → ℕ → Failure
@@ -42,9 +40,7 @@ verdict older newer =
 unfoldable pub succession : Table → Table → OfTwo Verdict
 succession older newer = of_two older newer (verdict older newer)
 
--- The value for each case of the code's answer.
-abbrev pub succession_answer : SuccessionAnswer → OfTwo Verdict
-succession_answer Successions.Succeeds = answered succeeds
-succession_answer (Successions.Fails f) = answered (fails f)
-succession_answer (Successions.OlderRefused k) = older_refused k
-succession_answer (Successions.NewerRefused k) = newer_refused k
+-- What the code's answer says.
+abbrev pub verdict_of : Result (Unit {0}) Failure → Verdict
+verdict_of (Ok u) = succeeds
+verdict_of (Err f) = fails f

@@ -2,9 +2,11 @@
 #![tactic(auto)]
 
 use rules::Refusal;
+use std::error::Error;
+use std::fmt;
 
 // What a newer table must meet to succeed an older one, in the order in which it is asked.
-#[derive(Clone, Copy)]
+#[derive(Clone, Copy, Debug, PartialEq, Eq)]
 pub enum Condition {
     Layout,
     Partition,
@@ -14,25 +16,29 @@ pub enum Condition {
 }
 
 // The first condition that fails, and the first row where it does, from 0; 0 for the layout.
-#[derive(Clone, Copy)]
+#[derive(Clone, Copy, Debug, PartialEq, Eq)]
 pub struct Failure {
     pub condition: Condition,
     pub row: usize,
 }
 
-// Whether the newer table succeeds the older.
-#[derive(Clone, Copy)]
-pub enum SuccessionAnswer {
-    Succeeds,
-    Fails(Failure),
-    OlderRefused(Refusal),
-    NewerRefused(Refusal),
+// Whether the newer table succeeds the older, or the first condition that fails.
+pub type Succession = Result<(), Failure>;
+
+// Which of two tables is refused, and why. The older is checked first.
+#[derive(Clone, Copy, Debug, PartialEq, Eq, Hash)]
+pub enum TableRefusal {
+    Older(Refusal),
+    Newer(Refusal),
 }
 
-// The encoded count below which the two tables agree.
-#[derive(Clone, Copy)]
-pub enum HorizonAnswer {
-    Horizon(u64),
-    OlderRefused(Refusal),
-    NewerRefused(Refusal),
+impl fmt::Display for TableRefusal {
+    fn fmt<W: fmt::Write>(&self, f: &mut fmt::Formatter<W>) -> fmt::Result {
+        match self {
+            TableRefusal::Older(refusal) => write!(f, "older table {refusal}"),
+            TableRefusal::Newer(refusal) => write!(f, "newer table {refusal}"),
+        }
+    }
 }
+
+impl Error for TableRefusal {}

@@ -1,2 +1,2 @@
--- From what the parts say to the two answers.
-pub mod Verdicts
+-- What the calls between the parts ask for.
+pub mod Asked

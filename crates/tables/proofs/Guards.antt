@@ -3,8 +3,7 @@ use Prim.Native.Nat.{ℕ}
 use mathlib.Core.Path.{◌≡◌, refl}
 use mathlib.Core.Bool.{Bool, true, false}
 use mathlib.Core.Option.{Option, none, some}
-use Rattle.rules.specs.declared.Refusal.{Refusal}
-use Rattle.rules.specs.Answer.{Answer, refused, numbered, placed, unless, unless_at, and_then}
+use Rattle.rules.specs.Answer.{Answer, refused, numbered, placed, unless, unless_at, and_then, Numbered}
 
 module _ {A : Type 0} where
   pub passed : (k : ℕ) (t : Bool) (x y : Answer A) → t ≡ true → y ≡ x → y ≡ unless k t x
@@ -17,15 +16,15 @@ module _ {A : Type 0} where
 
   module _ {B : Type 0} where
     -- a refusal, of whatever answer
-    other : {j k : Refusal} → ◌≡◌ {A = Answer A} (refused j) (refused k) → ◌≡◌ {A = Answer B} (refused k) (refused j)
+    other : {j k : Numbered} → ◌≡◌ {A = Answer A} (refused j) (refused k) → ◌≡◌ {A = Answer B} (refused k) (refused j)
     other h = cc
 
-    pub refused_same : (k : Refusal) (j : ℕ) (t : Bool) (x : Answer A) (y : Answer B) → unless j t x ≡ refused k → (x ≡ refused k → refused k ≡ y) → refused k ≡ unless j t y
+    pub refused_same : (k : Numbered) (j : ℕ) (t : Bool) (x : Answer A) (y : Answer B) → unless j t x ≡ refused k → (x ≡ refused k → refused k ≡ y) → refused k ≡ unless j t y
     unfolding unless
     refused_same k j true x y e f = f e
     refused_same k j false x y e f = other {j = numbered j} e
 
-    pub refused_same_at : (k : Refusal) (j : ℕ) (o : Option ℕ) (x : Answer A) (y : Answer B) → unless_at j o x ≡ refused k → (x ≡ refused k → refused k ≡ y) → refused k ≡ unless_at j o y
+    pub refused_same_at : (k : Numbered) (j : ℕ) (o : Option ℕ) (x : Answer A) (y : Answer B) → unless_at j o x ≡ refused k → (x ≡ refused k → refused k ≡ y) → refused k ≡ unless_at j o y
     unfolding unless_at
     refused_same_at k j none x y e f = f e
     refused_same_at k j (some i) x y e f = other {j = placed j i} e

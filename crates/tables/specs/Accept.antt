@@ -1,7 +1,7 @@
 -- What accepting tables answers, and the named facts of what it accepts.
 use Rattle.std.specs.Prelude.{ℕ, ◌≤◌, ◌≡◌}
 use Rattle.rules.specs.declared.Layout.{Layout}
-use Rattle.rules.specs.Answer.{Answer, answer, refused, unless_at, and_then}
+use Rattle.rules.specs.Answer.{Answer, answer, unless_at, and_then}
 use Rattle.rules.specs.Limits.{largest_total}
 use Rattle.rules.specs.Layout.{product_of, unit_of}
 use Rattle.rules.specs.Partitions.{Partitions, partitions_fault, total_of}
@@ -10,15 +10,9 @@ use Rattle.rules.specs.Facts.{LayoutFacts, PartitionsFacts, SegmentsFacts}
 use Rattle.layouts.specs.declared.Measured.{Measured}
 use Rattle.layouts.specs.Measure.{UnitFacts}
 use Rattle.tables.specs.declared.Basis.{Basis}
-use Rattle.tables.specs.declared.Acceptance.{Acceptance}
-use Rattle.tables.specs.declared.Acceptance.TheVariants.{Accepted, Refused}
 
 abbrev pub basis : ℕ → ℕ → Basis
 basis unit total = record { unit = unit; total = total }
-
-abbrev pub acceptance : Acceptance → Answer Basis
-acceptance (Accepted b) = answer b
-acceptance (Refused k) = refused k
 
 -- 2, after the layout: the basis for stamps
 unfoldable pub stamps_basis : Partitions → Measured → Answer Basis

@@ -3,17 +3,15 @@
 #![tactic(auto)]
 
 ghost use Rattle.std.specs.Prelude.{◌≡◌};
-ghost use Rattle.rules.specs.Answer.{and_then, steps_back_answer};
+ghost use Rattle.rules.specs.Answer.{and_then, answer_of};
 ghost use Rattle.rules.specs.Partitions.{partitions};
 ghost use Rattle.rules.specs.Segments.{segments};
 ghost use Rattle.rules.specs.Time.{steps_back_in};
-ghost use Rattle.layouts.specs.Measure.{measure_answer, InLimits};
-ghost use Rattle.tables.specs.Accept.{acceptance, stamps_basis, table_basis};
+ghost use Rattle.layouts.specs.Measure.{InLimits};
+ghost use Rattle.tables.specs.Accept.{stamps_basis, table_basis};
 
-use layouts::{MeasureAnswer, measure};
-use partitions::TotalAnswer;
-use rules::{Layout, Refusal, StepsBackAnswer};
-use segments::CheckAnswer;
+use layouts::{Measured, measure};
+use rules::{Layout, Refusal};
 
 // Of accepted tables: the unit 1,000×MSF by which a rate is divided, and the total.
 #[derive(Clone, Copy)]
@@ -22,51 +20,44 @@ pub struct Basis {
     pub total: u64,
 }
 
-#[derive(Clone, Copy)]
-pub enum Acceptance {
-    Accepted(Basis),
-    Refused(Refusal),
-}
-
 // Layout and partitions: what a stamp is read and printed by. The layout is long, so it stays with the call, and its measure
 // is handed on.
-pub fn accept_stamps(measured: MeasureAnswer, starts: &[u64], ends: &[u64]) -> Acceptance
-    ensures { acceptance result ≡ and_then (measure_answer measured) (stamps_basis (partitions starts.now ends.now)) }
+#[tactic(auto, unfolding(crate::specs::Accept::stamps_basis, partitions::specs::Total::accepted_total, rules::specs::Answer::and_then, rules::specs::Answer::unless_at))]
+pub fn accept_stamps(
+    measured: Result<Measured, Refusal>,
+    starts: &[u64],
+    ends: &[u64],
+) -> Result<Basis, Refusal>
+    ensures { answer_of result ≡ and_then (answer_of measured) (stamps_basis (partitions starts.now ends.now)) }
 {
-    match measured {
-        MeasureAnswer::Accepted(m) => match partitions::check(m.product, starts, ends) {
-            TotalAnswer::Total(total) => Acceptance::Accepted(Basis {
-                unit: m.unit,
-                total,
-            }),
-            TotalAnswer::Refused(k) => Acceptance::Refused(k),
-        },
-        MeasureAnswer::Refused(k) => Acceptance::Refused(k),
-    }
+    let m = measured?;
+    let total = partitions::check(m.product, starts, ends)?;
+    Ok(Basis {
+        unit: m.unit,
+        total,
+    })
 }
 
 // Layout, partitions and segments: what times are turned by.
+#[tactic(auto, unfolding(crate::specs::Accept::table_basis, segments::specs::Rows::accepted_segments, rules::specs::Answer::and_then, rules::specs::Answer::unless_at))]
 pub fn accept(
-    measured: MeasureAnswer,
+    measured: Result<Measured, Refusal>,
     starts: &[u64],
     ends: &[u64],
     counts: &[u64],
     times: &[i64],
     rates: &[u64],
-) -> Acceptance
+) -> Result<Basis, Refusal>
     requires { InLimits measured }
-    ensures { acceptance result ≡ and_then (measure_answer measured) (table_basis (partitions starts.now ends.now) (segments counts.now times.now rates.now)) }
+    ensures { answer_of result ≡ and_then (answer_of measured) (table_basis (partitions starts.now ends.now) (segments counts.now times.now rates.now)) }
 {
-    match accept_stamps(measured, starts, ends) {
-        Acceptance::Accepted(b) => match segments::check(b.unit, b.total, counts, times, rates) {
-            CheckAnswer::Accepted => Acceptance::Accepted(b),
-            CheckAnswer::Refused(k) => Acceptance::Refused(k),
-        },
-        Acceptance::Refused(k) => Acceptance::Refused(k),
-    }
+    let b = accept_stamps(measured, starts, ends)?;
+    segments::check(b.unit, b.total, counts, times, rates)?;
+    Ok(b)
 }
 
 // Whether the table steps back.
+#[tactic(auto, using(layouts::proofs::Units::measured_in_limits))]
 pub fn steps_back(
     layout: Layout,
     starts: &[u64],
@@ -74,16 +65,9 @@ pub fn steps_back(
     counts: &[u64],
     times: &[i64],
     rates: &[u64],
-) -> StepsBackAnswer
-    ensures { steps_back_answer result ≡ steps_back_in layout (partitions starts.now ends.now) (segments counts.now times.now rates.now) }
+) -> Result<bool, Refusal>
+    ensures { answer_of result ≡ steps_back_in layout (partitions starts.now ends.now) (segments counts.now times.now rates.now) }
 {
-    match accept(measure(layout), starts, ends, counts, times, rates) {
-        Acceptance::Accepted(b) => {
-            if segments::steps_back(b.unit, counts, times, rates) {
-                return StepsBackAnswer::Yes;
-            }
-            StepsBackAnswer::No
-        }
-        Acceptance::Refused(k) => StepsBackAnswer::Refused(k),
-    }
+    let b = accept(measure(layout), starts, ends, counts, times, rates)?;
+    Ok(segments::steps_back(b.unit, counts, times, rates))
 }

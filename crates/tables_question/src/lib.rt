@@ -3,116 +3,85 @@
 
 ghost use Rattle.std.specs.Prelude.{◌≡◌};
 ghost use Rattle.put.specs.Places.{Put};
-ghost use Rattle.script_tables.specs.Sizes.{Fit};
-ghost use Rattle.succession_rules.specs.Succession.{succession, succession_answer};
-ghost use Rattle.succession_rules.specs.Horizon.{horizon_of, horizon_answer};
-ghost use Rattle.tables_question.specs.Kept.{older_table, script_table};
+ghost use Rattle.succession_rules.specs.OfTwo.{answered_as, answered_of};
+ghost use Rattle.succession_rules.specs.Succession.{succession, verdict_of};
+ghost use Rattle.succession_rules.specs.Horizon.{horizon_of};
+ghost use Rattle.tables_question.specs.Kept.{kept};
 
-use rules::{Layout, Refusal};
+use rules::Refusal;
 use script_names::TablesQuestion;
-use script_tables::{
-    COUNTS, ENDS, Layouts, Lists, OLDER_COUNTS, OLDER_ENDS, OLDER_RATES, OLDER_STARTS, RATES,
-    STARTS, Sizes, TimeLists, entries, layout_of, older_layout_of, older_time_entries,
-    time_entries,
-};
-use succession_rules::{Condition, Failure, HorizonAnswer, SuccessionAnswer};
+use script_tables::{Table, Tables};
+use succession_rules::{Condition, Failure, Succession, TableRefusal};
 
-pub fn answer(
-    question: TablesQuestion,
-    layouts: &Layouts,
-    sizes: &Sizes,
-    lists: &Lists,
-    times: &TimeLists,
-    out: &mut [u8],
-    place: usize,
-) -> usize
-    requires { Fit sizes.now }
+pub fn answer(question: TablesQuestion, tables: &Tables, out: &mut [u8], place: usize) -> usize
     ensures { Put place out.old result }
 {
     match question {
         TablesQuestion::Succeeds => {
-            let older = older_layout_of(layouts);
-            let answer = succeeds(older, layout_of(layouts), sizes, lists, times);
+            let answer = succeeds(&tables.older, &tables.table);
             put_succession(out, place, answer)
         }
         TablesQuestion::Horizon => {
-            let older = older_layout_of(layouts);
-            let answer = horizon(older, layout_of(layouts), sizes, lists, times);
+            let answer = horizon(&tables.older, &tables.table);
             put_horizon(out, place, answer)
         }
     }
 }
 
-fn succeeds(
-    older: Layout,
-    newer: Layout,
-    sizes: &Sizes,
-    lists: &Lists,
-    times: &TimeLists,
-) -> SuccessionAnswer
-    requires { Fit sizes.now }
-    ensures { succession_answer result ≡ succession (older_table older sizes.now lists.now times.now) (script_table newer sizes.now lists.now times.now) }
+fn succeeds(older: &Table, newer: &Table) -> Result<Succession, TableRefusal>
+    ensures { answered_as verdict_of result ≡ succession (kept older.now) (kept newer.now) }
 {
     succession::succeeds(
-        older,
-        entries(lists, OLDER_STARTS, sizes),
-        entries(lists, OLDER_ENDS, sizes),
-        entries(lists, OLDER_COUNTS, sizes),
-        older_time_entries(times, sizes),
-        entries(lists, OLDER_RATES, sizes),
-        newer,
-        entries(lists, STARTS, sizes),
-        entries(lists, ENDS, sizes),
-        entries(lists, COUNTS, sizes),
-        time_entries(times, sizes),
-        entries(lists, RATES, sizes),
+        older.layout,
+        older.starts.all(),
+        older.ends.all(),
+        older.counts.all(),
+        older.times.all(),
+        older.rates.all(),
+        newer.layout,
+        newer.starts.all(),
+        newer.ends.all(),
+        newer.counts.all(),
+        newer.times.all(),
+        newer.rates.all(),
     )
 }
 
-fn horizon(
-    older: Layout,
-    newer: Layout,
-    sizes: &Sizes,
-    lists: &Lists,
-    times: &TimeLists,
-) -> HorizonAnswer
-    requires { Fit sizes.now }
-    ensures { horizon_answer result ≡ horizon_of (older_table older sizes.now lists.now times.now) (script_table newer sizes.now lists.now times.now) }
+fn horizon(older: &Table, newer: &Table) -> Result<u64, TableRefusal>
+    ensures { answered_of result ≡ horizon_of (kept older.now) (kept newer.now) }
 {
     succession::horizon(
-        older,
-        entries(lists, OLDER_STARTS, sizes),
-        entries(lists, OLDER_ENDS, sizes),
-        entries(lists, OLDER_COUNTS, sizes),
-        older_time_entries(times, sizes),
-        entries(lists, OLDER_RATES, sizes),
-        newer,
-        entries(lists, STARTS, sizes),
-        entries(lists, ENDS, sizes),
-        entries(lists, COUNTS, sizes),
-        time_entries(times, sizes),
-        entries(lists, RATES, sizes),
+        older.layout,
+        older.starts.all(),
+        older.ends.all(),
+        older.counts.all(),
+        older.times.all(),
+        older.rates.all(),
+        newer.layout,
+        newer.starts.all(),
+        newer.ends.all(),
+        newer.counts.all(),
+        newer.times.all(),
+        newer.rates.all(),
     )
 }
 
-fn put_succession(out: &mut [u8], at: usize, answer: SuccessionAnswer) -> usize
+fn put_succession(out: &mut [u8], at: usize, answer: Result<Succession, TableRefusal>) -> usize
     ensures { Put at out.old result }
 {
     match answer {
-        SuccessionAnswer::Succeeds => put::text(out, at, b"ok yes\n"),
-        SuccessionAnswer::Fails(failure) => put_failure(out, at, failure),
-        SuccessionAnswer::OlderRefused(refusal) => put_refused(out, at, b"refused older ", refusal),
-        SuccessionAnswer::NewerRefused(refusal) => put_refused(out, at, b"refused newer ", refusal),
+        Ok(Ok(())) => put::text(out, at, b"ok yes\n"),
+        Ok(Err(failure)) => put_failure(out, at, failure),
+        Err(refused) => put_refused(out, at, refused),
     }
 }
 
-fn put_horizon(out: &mut [u8], at: usize, answer: HorizonAnswer) -> usize
+fn put_horizon(out: &mut [u8], at: usize, answer: Result<u64, TableRefusal>) -> usize
     ensures { Put at out.old result }
 {
     match answer {
-        HorizonAnswer::Horizon(below) => put_last(out, at, b"ok ", below),
-        HorizonAnswer::OlderRefused(refusal) => put_refused(out, at, b"refused older ", refusal),
-        HorizonAnswer::NewerRefused(refusal) => put_refused(out, at, b"refused newer ", refusal),
+        Ok(below) => put_last(out, at, b"ok ", below),
+        Err(refused) => put_refused(out, at, refused),
     }
 }
 
@@ -121,8 +90,7 @@ fn put_failure(out: &mut [u8], at: usize, failure: Failure) -> usize
     ensures { Put at out.old result }
 {
     let row = failure.row as u64;
-    let condition = failure.condition;
-    match condition {
+    match failure.condition {
         Condition::Layout => put_last(out, at, b"ok no layout ", row),
         Condition::Partition => put_last(out, at, b"ok no partition ", row),
         Condition::Segment => put_last(out, at, b"ok no segment ", row),
@@ -131,8 +99,17 @@ fn put_failure(out: &mut [u8], at: usize, failure: Failure) -> usize
     }
 }
 
-// The head says which table is refused.
-fn put_refused(out: &mut [u8], at: usize, head: &[u8], refusal: Refusal) -> usize
+// Which table is refused, and why.
+fn put_refused(out: &mut [u8], at: usize, refused: TableRefusal) -> usize
+    ensures { Put at out.old result }
+{
+    match refused {
+        TableRefusal::Older(refusal) => put_refusal(out, at, b"refused older ", refusal),
+        TableRefusal::Newer(refusal) => put_refusal(out, at, b"refused newer ", refusal),
+    }
+}
+
+fn put_refusal(out: &mut [u8], at: usize, head: &[u8], refusal: Refusal) -> usize
     ensures { Put at out.old result }
 {
     let place = put::text(out, at, head);

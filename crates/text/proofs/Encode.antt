@@ -1,4 +1,6 @@
 -- A parsed stamp to its encoded count. A number above the number of partitions is refused, however large: its cap changes nothing.
+use Rattle.rules.specs.declared.refusal.Refusal.{Refusal}
+use Rattle.std.specs.Prelude.{Result, Ok, Err}
 use Prim.Native.Nat.{ℕ, ◌≤◌, ◌<◌, min}
 use mathlib.Core.Path.{◌≡◌, refl, sym, ap, ◌∙◌}
 use lib.Dec.{leb}
@@ -6,45 +8,16 @@ use native.Mathlib.Omega.{arith}
 use borrow.Author.Tests.{lt-leb, leb-true, leb-false}
 use Rattle.base.proofs.Tests.{by_test, and_out_second}
 use Rattle.rules.specs.Limits.{most_partitions}
-use Rattle.rules.specs.declared.Refusal.{Refusal}
 use Rattle.rules.specs.declared.Reading.{Reading}
-use Rattle.rules.specs.declared.ReadAnswer.{ReadAnswer}
-use Rattle.rules.specs.Answer.{Answer, answer, refused, refuse, unless, and_then, read_answer, reading}
+use Rattle.rules.specs.Answer.{Answer, answer, refused, refuse, unless, and_then, reading, as_numbered, answer_as}
 use Rattle.rules.specs.Partitions.{Partitions, partitions_in}
-use Rattle.rules.specs.Stamp.{Parsed, named, unnamed, encode_named, encode_first, encode}
+use Rattle.rules.specs.Stamp.{Parsed, named, unnamed, encode_named, encode}
 use Rattle.encode.specs.Listed.{Listed}
-use Rattle.encode.specs.declared.Encoded.{Encoded}
-use Rattle.encode.specs.declared.Encoded.TheVariants as Encodes
-use Rattle.encode.specs.Encoded.{encoded_answer}
 use Rattle.fields.specs.Pass.{field_cap}
 use Rattle.parse.specs.declared.ParsedStamp.{ParsedStamp}
-use Rattle.parse.specs.declared.ParsedStamp.TheVariants as Parses
-use Rattle.parse.specs.ParsedStamp.{parsed_answer, capped}
-
--- an encoded count is a reading
-module _ (x : Encoded) (f : ℕ → Answer Reading) where
-  pub encoded_count : (e : ℕ) (a : Answer Reading) → x ≡ Encodes.Count e → a ≡ f e → a ≡ and_then (encoded_answer x) f
-  unfolding and_then
-  encoded_count e a h g = rw h g
-
-  pub encoded_refused : (k : Refusal) → x ≡ Encodes.Refused k → refused k ≡ and_then (encoded_answer x) f
-  unfolding and_then
-  encoded_refused k h = rw h
+use Rattle.parse.specs.ParsedStamp.{parsed, capped}
 
 module _ (p : Partitions) where
-  module _ (q : ParsedStamp) (x : Encoded) (r : ReadAnswer) (c : Reading) (f : read_answer r ≡ and_then (encoded_answer x) (λ e. answer (reading e))) where
-    pub named_encoded : (k : ℕ) → q ≡ Parses.Named k c → encoded_answer x ≡ encode_named p k c.count → read_answer r ≡ and_then (parsed_answer q) (encode p)
-    unfolding and_then encode
-    named_encoded k h g = rw h (f ∙ ap (λ a. and_then a (λ e. answer (reading e))) g)
-
-    pub unnamed_encoded : q ≡ Parses.Unnamed c → encoded_answer x ≡ encode_first p c.count → read_answer r ≡ and_then (parsed_answer q) (encode p)
-    unfolding and_then encode
-    unnamed_encoded h g = rw h (f ∙ ap (λ a. and_then a (λ e. answer (reading e))) g)
-
-  pub parse_refused : (q : ParsedStamp) (k : Refusal) → q ≡ Parses.Refused k → refused k ≡ and_then (parsed_answer q) (encode p)
-  unfolding and_then
-  parse_refused q k h = rw h
-
   past : (k c : ℕ) → partitions_in p < k → encode_named p k c ≡ refuse 10
   unfolding encode_named unless
   past k c l = rw (and_out_second (leb 1 k) (lt-leb k (partitions_in p) l))
@@ -62,5 +35,14 @@ module _ (p : Partitions) where
   encode_capped (answer (unnamed c)) h = refl
   encode_capped (refused k) h = refl
 
-  pub stamp_encoded : (a : Answer Parsed) (q : ParsedStamp) (r : ReadAnswer) → Listed p → parsed_answer q ≡ capped a → read_answer r ≡ and_then (parsed_answer q) (encode p) → read_answer r ≡ and_then a (encode p)
-  stamp_encoded a q r l e f = f ∙ ap (λ x. and_then x (encode p)) e ∙ encode_capped a l.few
+  module _ (a : Answer Parsed) (q : Result ParsedStamp Refusal) (l : Listed p) (e : answer_as parsed q ≡ capped a) where
+    after_parsing : and_then (answer_as parsed q) (encode p) ≡ and_then a (encode p)
+    after_parsing = ap (λ x. and_then x (encode p)) e ∙ encode_capped a l.few
+
+    pub stamp_encoded : (s : ParsedStamp) (r : Answer Reading) → q ≡ Ok s → r ≡ encode p (parsed s) → r ≡ and_then a (encode p)
+    unfolding and_then
+    stamp_encoded s r h f = f ∙ (rw h at after_parsing)
+
+    pub parse_refused : (k : Refusal) → q ≡ Err k → refused (as_numbered k) ≡ and_then a (encode p)
+    unfolding and_then
+    parse_refused k h = rw h at after_parsing

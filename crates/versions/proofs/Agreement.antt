@@ -4,8 +4,7 @@ use mathlib.Core.Path.{◌≡◌, refl, sym, ◌∙◌}
 use mathlib.Core.Bool.{Bool, true, false}
 use mathlib.Core.List.{List}
 use Rattle.base.specs.Scans.{among}
-use Rattle.rules.specs.declared.Refusal.{Refusal}
-use Rattle.rules.specs.Answer.{Answer, answer, refused, unless, and_then}
+use Rattle.rules.specs.Answer.{Answer, answer, refused, unless, and_then, Numbered}
 use Rattle.rules.proofs.Answers.{not_answer}
 use Rattle.versions.specs.Versions.{Agree}
 
@@ -13,16 +12,16 @@ module _ {A : Type 0} {numbers : List ℕ} where
   pub agree_same : {a b : Answer A} → a ≡ b → Agree numbers a b
   agree_same {a} {b} p = record { same = λ x e. sym p ∙ e; refuses = λ x k n o. clash n o }
     where
-      clash : {x : A} {k : Refusal} → b ≡ answer x → a ≡ refused k → among k.number numbers ≡ true
+      clash : {x : A} {k : Numbered} → b ≡ answer x → a ≡ refused k → among k.number numbers ≡ true
       clash n o = cc
 
-  pub agree_refused : {a b : Answer A} (k : Refusal) → a ≡ refused k → among k.number numbers ≡ true → Agree numbers a b
+  pub agree_refused : {a b : Answer A} (k : Numbered) → a ≡ refused k → among k.number numbers ≡ true → Agree numbers a b
   agree_refused {a} {b} k r m = record { same = λ x e. clash e; refuses = λ x j n o. number o }
     where
       clash : {x : A} → a ≡ answer x → b ≡ answer x
       clash e = cc
 
-      number : {j : Refusal} → a ≡ refused j → among j.number numbers ≡ true
+      number : {j : Numbered} → a ≡ refused j → among j.number numbers ≡ true
       number o = cc
 
   pub agree_unless : {a b : Answer A} (k : ℕ) (t : Bool) → Agree numbers a b → Agree numbers (unless k t a) (unless k t b)

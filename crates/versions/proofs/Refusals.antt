@@ -9,8 +9,7 @@ use lib.ListN.{length}
 use borrow.Author.Tests.{leb-true, leb-false, le-leb, lt-leb}
 use Rattle.base.specs.Scans.{among}
 use Rattle.base.proofs.Tests.{by_test}
-use Rattle.rules.specs.declared.Refusal.{Refusal}
-use Rattle.rules.specs.Answer.{answer, refused, numbered, unless, and_then}
+use Rattle.rules.specs.Answer.{answer, refused, numbered, unless, and_then, Numbered}
 use Rattle.rules.specs.Layout.{product_of}
 use Rattle.rules.specs.Partitions.{total_of, partitions_ok}
 use Rattle.rules.specs.Print.{partition_of, fitting, stamp_print, length_printed, buffer_after}
@@ -35,7 +34,7 @@ module _ (s b : List ℕ) where
   unfolding shown fitting unless and_then length_printed buffer_after
   shown_fits a h = by_test (leb (length s) (length b)) (λ t. leb-true _ _ t) (λ f. absurd (not_answer (rw f at h)))
 
-  refused_short : (k : Refusal) → shown (fitting (length b) s) b ≡ refused k → length b < length s
+  refused_short : (k : Numbered) → shown (fitting (length b) s) b ≡ refused k → length b < length s
   unfolding shown fitting unless and_then length_printed buffer_after
   refused_short k h = by_test (leb (length s) (length b)) (λ t. absurd (not_answer (sym (rw t at h)))) (λ f. leb-false _ _ f)
 
@@ -62,7 +61,7 @@ module _ (older newer : Table) (was : Accepted older) (is : Accepted newer) (say
       )
       (omega (arith, digits_grow (partition_of older.partitions e + 1) (partition_of newer.partitions e + 1) (omega (arith, partition_up older.partitions newer.partitions rows e h))))
 
-  within : (b c : List ℕ) → length b ≡ length c → (a : PrintedAnswer) (k : Refusal) → printed newer e c ≡ answer a → printed older e b ≡ refused k → e ≤ total_of older.partitions → ⊥
+  within : (b c : List ℕ) → length b ≡ length c → (a : PrintedAnswer) (k : Numbered) → printed newer e c ≡ answer a → printed older e b ≡ refused k → e ≤ total_of older.partitions → ⊥
   unfolding unless
   within b c same a k gives refuses h =
       let total = le-leb e (total_of older.partitions) h in
@@ -71,7 +70,7 @@ module _ (older newer : Table) (was : Accepted older) (is : Accepted newer) (say
       let short = refused_short _ b k (rw (print_is older was, total) at refuses) in
       omega (arith, print_up h)
 
-  beyond : (b : List ℕ) (k : Refusal) → printed older e b ≡ refused k → total_of older.partitions < e → among k.number older_refuses_count ≡ true
+  beyond : (b : List ℕ) (k : Numbered) → printed older e b ≡ refused k → total_of older.partitions < e → among k.number older_refuses_count ≡ true
   unfolding unless shown and_then length_printed among
   beyond b k refuses h =
       let twelve = rw (print_is older was, lt-leb e (total_of older.partitions) h) at refuses in

@@ -4,11 +4,10 @@ use Rattle.std.specs.Prelude.{ℕ, ◌≡◌, true, List, [], ◌∷◌, map, �
 use Prim.Native.String.{String}
 use Rattle.base.specs.Scans.{among}
 use Rattle.rules.specs.declared.Layout.{Layout}
-use Rattle.rules.specs.declared.Refusal.{Refusal}
 use Rattle.rules.specs.declared.Reading.{Reading}
 use Rattle.rules.specs.declared.TimeOfCount.{TimeOfCount}
 use Rattle.rules.specs.declared.CountAtTime.{CountAtTime}
-use Rattle.rules.specs.Answer.{Answer, answer, refused, refuse, reading, time_of_count, count_at_time}
+use Rattle.rules.specs.Answer.{Answer, answer, refused, refuse, reading, time_of_count, count_at_time, Numbered}
 use Rattle.rules.specs.Partitions.{Partitions, partitions}
 use Rattle.rules.specs.Segments.{Segments, segments}
 use Rattle.rules.specs.Examples.{bytes, layout_a, partitions_a, segments_a}
@@ -176,7 +175,7 @@ pub record ExceptionNeeded : Type 0 where
 abbrev pub RefusedEverywhere : Type 0
 RefusedEverywhere =
     (older newer : Table) → Accepted older → Accepted newer → ((h : Hypothesis) → Says older newer h) → TenSlots older.layout
-    → (e : ℕ) (b c : List ℕ) → length b ≡ length c → (a : PrintedAnswer) (k : Refusal) → printed newer e c ≡ answer a → printed older e b ≡ refused k
+    → (e : ℕ) (b c : List ℕ) → length b ≡ length c → (a : PrintedAnswer) (k : Numbered) → printed newer e c ≡ answer a → printed older e b ≡ refused k
     → among k.number older_refuses_count ≡ true
 
 abbrev pub table_a : Table

@@ -3,11 +3,10 @@
 use Rattle.std.specs.Prelude.{ℕ, ◌+◌, ◌-◌, ◌≤◌, ◌<◌, ◌≡◌, true, false, List, [], ◌∷◌, ◌++◌, ltb, ℤ, length, take, drop}
 use Rattle.base.specs.Scans.{all, among}
 use Rattle.rules.specs.declared.Layout.{Layout}
-use Rattle.rules.specs.declared.Refusal.{Refusal}
 use Rattle.rules.specs.declared.Reading.{Reading}
 use Rattle.rules.specs.declared.TimeOfCount.{TimeOfCount}
 use Rattle.rules.specs.declared.CountAtTime.{CountAtTime}
-use Rattle.rules.specs.Answer.{Answer, answer, refused, and_then}
+use Rattle.rules.specs.Answer.{Answer, answer, refused, and_then, Numbered}
 use Rattle.rules.specs.Layout.{layout_ok, moduli_of, offsets_of, product_of, unit_of}
 use Rattle.rules.specs.Partitions.{Partitions, partitions_in, start_of, end_of, total_of, partitions_ok}
 use Rattle.rules.specs.Segments.{Segments, segments_in, segments_ok, steps_back}
@@ -66,7 +65,7 @@ module _ (older newer : Table) where
 -- "Where the older answers, the newer gives the same answer. Where only the newer answers, the older refuses" with one of these numbers.
 pub record Agree {A : Type 0} (numbers : List ℕ) (older newer : Answer A) : Type 0 where
   pub same : (a : A) → older ≡ answer a → newer ≡ answer a
-  pub refuses : (a : A) (k : Refusal) → newer ≡ answer a → older ≡ refused k → among k.number numbers ≡ true
+  pub refuses : (a : A) (k : Numbered) → newer ≡ answer a → older ≡ refused k → among k.number numbers ≡ true
 
 -- "the older refuses: a stamp with 10 or 11, a count to print or to turn into time with 12, a time with 14"
 abbrev pub older_refuses_stamp : List ℕ

@@ -1,4 +1,1 @@
 pub mod Capped
-pub mod Columns
-pub mod Digits
-pub mod Words

@@ -1,8 +1,5 @@
-use Rattle.std.proofs.Common.{◌-◌, ◌<◌}
+use Rattle.std.proofs.Common.{◌<◌}
 use Rattle.bench_kernel.proofs.marks.Given as goal
 
-abbrev pub invariant-loop-k : goal.invariant-loop-k
-invariant-loop-k l = (l.x < 2147483648) × (l.sum < 1000000007)
-
-abbrev pub decreases-loop-k : goal.decreases-loop-k
-decreases-loop-k l = l.asked - l.k
+abbrev pub invariant-loop : goal.invariant-loop
+invariant-loop l = (l.x < 2147483648) × (l.sum < 1000000007)

@@ -1,6 +1,5 @@
 use mathlib.Core.Path.{ap}
 use mathlib.Core.Bool.{not}
-use Prim.Native.Nat.{◌-◌}
 use borrow.Author.Rules.{rules}
 use Rattle.partitions.proofs.Rows.{in_order, sum_fits, rows_start, rows_turn}
 use Rattle.partitions.proofs.Checked.{ends_there, lengths_out, row_out, accepted}
@@ -25,7 +24,7 @@ pub overflow_add-total : goal.overflow_add-total
 overflow_add-total c = sum_fits _ _ _ _ c.row_ok.ensures (ap not c.if-not-row_ok.false)
 
 pub loop-i-preserved : goal.loop-i-preserved
-loop-i-preserved c = (search rules, search (rows_turn, rules))
+loop-i-preserved c = search (rows_turn, rules)
 
 pub returns : goal.returns
 returns c = search (accepted, rules)

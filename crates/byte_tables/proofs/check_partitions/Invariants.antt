@@ -1,10 +1,6 @@
-use Prim.Native.Nat.{◌-◌, ◌≤◌}
 use Rattle.c_rules.specs.Numbers.{numbers}
 use Rattle.partitions.proofs.Rows.{RowsTo}
 use Rattle.byte_tables.proofs.check_partitions.Given as goal
 
 abbrev pub invariant-loop-i : goal.invariant-loop-i
-invariant-loop-i l = (l.i ≤ l.n) × RowsTo l.product (numbers l.starts) (numbers l.ends) l.i l.total
-
-abbrev pub decreases-loop-i : goal.decreases-loop-i
-decreases-loop-i l = l.n - l.i
+invariant-loop-i l = RowsTo l.product (numbers l.starts) (numbers l.ends) l.i l.total

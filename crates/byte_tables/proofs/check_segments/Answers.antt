@@ -1,6 +1,5 @@
 use mathlib.Core.Path.{ap}
 use mathlib.Core.Bool.{not}
-use Prim.Native.Nat.{◌-◌}
 use borrow.Author.Rules.{rules}
 use Rattle.c_rules.proofs.Bytes.{times_rows}
 use Rattle.segments.proofs.Checked.{lengths_out, some_row, inner_in, next_in, last_in, rows_start, row_bad, next_bad, rows_turn, last_bad, all_good}

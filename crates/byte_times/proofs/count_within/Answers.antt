@@ -20,8 +20,8 @@ count_of_row-requires-clause-to_ticks c = search (row_to_ticks, rules)
 pub count_of_row-requires-clause-t_bound : goal.count_of_row-requires-clause-t_bound
 count_of_row-requires-clause-t_bound c = search (row_sum_fits, rules)
 
-pub returns-in-Row : goal.returns-in-Row
-returns-in-Row c = search (count_is, rules)
+pub returns-in-Some : goal.returns-in-Some
+returns-in-Some c = search (count_is, rules)
 
-pub returns-in-Nothing : goal.returns-in-Nothing
-returns-in-Nothing c = search (before_all, rules)
+pub returns-in-None : goal.returns-in-None
+returns-in-None c = search (before_all, rules)

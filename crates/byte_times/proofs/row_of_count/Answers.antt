@@ -1,4 +1,3 @@
-use Prim.Native.Nat.{◌-◌}
 use borrow.Author.Rules.{rules}
 use Rattle.segment_search.proofs.Segments.{counts_start, count_inside, counts_lower, counts_upper, count_found}
 use Rattle.byte_times.proofs.row_of_count.Goals as goal

@@ -1,4 +1,3 @@
-use Prim.Native.Nat.{◌-◌}
 use borrow.Author.Rules.{rules}
 use Rattle.c_rules.proofs.Bytes.{times_rows}
 use Rattle.segment_search.proofs.Segments.{times_start, middle_fits, after-middle-fits, time_inside, times_lower, times_upper, time_found}

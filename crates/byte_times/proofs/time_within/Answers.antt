@@ -14,8 +14,8 @@ row_at-requires c = search (count_in_lists, rules)
 pub time_of_row-requires : goal.time_of_row-requires
 time_of_row-requires c = search (row_to_time, rules)
 
-pub returns-in-Row : goal.returns-in-Row
-returns-in-Row c = search (time_is, rules)
+pub returns-in-Some : goal.returns-in-Some
+returns-in-Some c = search (time_is, rules)
 
-pub returns-in-Nothing : goal.returns-in-Nothing
-returns-in-Nothing c = search (before_first, rules)
+pub returns-in-None : goal.returns-in-None
+returns-in-None c = search (before_first, rules)

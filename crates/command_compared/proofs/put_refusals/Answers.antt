@@ -2,8 +2,8 @@ use borrow.Author.Rules.{rules}
 use Rattle.command_compared.proofs.Compared.{one_number, two_numbers}
 use Rattle.command_compared.proofs.put_refusals.Goals as goal
 
-pub returns-then-j-k : goal.returns-then-j-k
-returns-then-j-k c = search (one_number, rules)
+pub returns-then-number : goal.returns-then-number
+returns-then-number c = search (one_number, rules)
 
 pub returns : goal.returns
 returns c = search (two_numbers, rules)

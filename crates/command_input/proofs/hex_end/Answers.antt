@@ -1,4 +1,3 @@
-use Prim.Native.Nat.{◌-◌}
 use borrow.Author.Rules.{rules}
 use Rattle.command_input.proofs.Hex.{hex_next, hex_stop, hex_past}
 use Rattle.command_input.proofs.hex_end.Goals as goal

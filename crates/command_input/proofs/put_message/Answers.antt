@@ -1,4 +1,3 @@
-use Prim.Native.Nat.{◌-◌}
 use borrow.Author.Rules.{rules}
 use Rattle.command_input.proofs.Hex.{digit_at, low_digit, low_digit_at, message_next, message_done}
 use Rattle.command_input.proofs.put_message.Goals as goal

@@ -1,4 +1,3 @@
-use Prim.Native.Nat.{◌-◌}
 use borrow.Author.Rules.{rules}
 use Rattle.command_lines.proofs.Pieces.{begun, held_fits, left_then, answers_then, well_then}
 use Rattle.command_lines.proofs.answer_chunk.Goals as goal

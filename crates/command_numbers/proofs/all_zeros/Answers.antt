@@ -1,4 +1,3 @@
-use Prim.Native.Nat.{◌-◌}
 use borrow.Author.Rules.{rules}
 use Rattle.command_numbers.proofs.Spelled.{zeros_next, zeros_out, zeros_done}
 use Rattle.command_numbers.proofs.all_zeros.Goals as goal

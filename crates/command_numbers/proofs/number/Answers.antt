@@ -1,4 +1,3 @@
-use Prim.Native.Nat.{◌-◌}
 use borrow.Author.Rules.{rules}
 use Rattle.command_numbers.proofs.Spelled.{number_next, number_done}
 use Rattle.command_numbers.proofs.number.Goals as goal

@@ -1,4 +1,3 @@
-use Prim.Native.Nat.{◌-◌}
 use borrow.Author.Rules.{rules}
 use Rattle.command_numbers.proofs.Spelled.{decimals_next, decimals_done}
 use Rattle.command_numbers.proofs.with_decimals.Goals as goal

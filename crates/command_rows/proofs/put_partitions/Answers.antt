@@ -1,4 +1,3 @@
-use Prim.Native.Nat.{◌-◌}
 use mathlib.Core.Path.{refl}
 use borrow.Author.Rules.{rules}
 use Rattle.encode.proofs.Sums.{in-ends, before_next, ends_at_start, before_fits}
@@ -21,7 +20,7 @@ loop-i-preserved c = (
   search rules,
   search rules,
   search rules,
-  search (before_next, refl, rules),
+  search (before_next, rules),
   partition_next _ _ _ _ _ _ _ _ _ _ c.loop-i.invariant.5 c.put_partition-put.ensures.written refl refl refl (search rules) (search rules) (search rules),
 )
 

@@ -1,4 +1,4 @@
-use Prim.Native.Nat.{◌+◌, ◌-◌, ◌≤◌, min}
+use Prim.Native.Nat.{◌+◌, ◌≤◌, min}
 use mathlib.Core.Path.{◌≡◌}
 use lib.ListN.{length}
 use Rattle.rules.specs.Partitions.{partitions, lengths_before}
@@ -15,6 +15,3 @@ invariant-loop-i l = (l.i ≤ length l.starts)
     × (l.put ≤ length l.initial.out)
     × (l.first ≡ lengths_before (partitions l.starts l.ends) l.i)
     × Written (rows_between (partition_line (partitions l.starts l.ends)) l.from l.i) l.put 0 l.initial.out l.out
-
-abbrev pub decreases-loop-i : goal.decreases-loop-i
-decreases-loop-i l = length l.starts - l.i

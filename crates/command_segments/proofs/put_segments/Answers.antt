@@ -1,4 +1,3 @@
-use Prim.Native.Nat.{◌-◌}
 use borrow.Author.Rules.{rules}
 use Rattle.command_rows.proofs.RowByRow.{rows_begin}
 use Rattle.command_segments.proofs.SegmentLines.{segment_next}

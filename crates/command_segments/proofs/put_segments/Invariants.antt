@@ -1,4 +1,4 @@
-use Prim.Native.Nat.{◌+◌, ◌-◌, ◌≤◌, min}
+use Prim.Native.Nat.{◌+◌, ◌≤◌, min}
 use mathlib.Core.Path.{◌≡◌}
 use lib.ListN.{length}
 use Rattle.rules.specs.Segments.{segments}
@@ -14,6 +14,3 @@ invariant-loop-i l = (l.i ≤ length l.counts)
     × (length l.out ≡ length l.initial.out)
     × (l.put ≤ length l.initial.out)
     × Written (rows_between (segment_line l.seconds l.unit (segments l.counts l.times l.rates)) l.from l.i) l.put 0 l.initial.out l.out
-
-abbrev pub decreases-loop-i : goal.decreases-loop-i
-decreases-loop-i l = length l.counts - l.i

@@ -20,8 +20,8 @@ count_of_row-requires-clause-to_ticks c = search (row_to_ticks, rules)
 pub count_of_row-requires-clause-t_bound : goal.count_of_row-requires-clause-t_bound
 count_of_row-requires-clause-t_bound c = search (row_sum_fits, rules)
 
-pub returns-in-Row : goal.returns-in-Row
-returns-in-Row c = search (count_is, rules)
+pub returns : goal.returns
+returns c = search (count_is, rules)
 
-pub returns-in-Nothing : goal.returns-in-Nothing
-returns-in-Nothing c = search (before_all, rules)
+pub returns-in_default : goal.returns-in_default
+returns-in_default c = search (before_all, rules)

@@ -14,8 +14,8 @@ row_at-requires c = search (count_in_lists, rules)
 pub time_of_row-requires : goal.time_of_row-requires
 time_of_row-requires c = search (row_to_time, rules)
 
-pub returns-in-Row : goal.returns-in-Row
-returns-in-Row c = search (time_is, rules)
+pub returns : goal.returns
+returns c = search (time_is, rules)
 
-pub returns-in-Nothing : goal.returns-in-Nothing
-returns-in-Nothing c = search (before_first, rules)
+pub returns-in_default : goal.returns-in_default
+returns-in_default c = search (before_first, rules)

@@ -1,13 +1,7 @@
 use mathlib.Core.Path.{refl}
-use Rattle.encode.proofs.Sums.{zero_named, past_named, named_inside, named_outside, from_start, encoded_fits}
+use Rattle.encode.proofs.Sums.{named_inside, named_outside, from_start, encoded_fits}
 use borrow.Author.Rules.{rules}
 use Rattle.encode.proofs.encode_named.Goals as goal
-
-pub returns-then-number-lt1 : goal.returns-then-number-lt1
-returns-then-number-lt1 c = search (zero_named, rules)
-
-pub returns-then-starts-number : goal.returns-then-starts-number
-returns-then-starts-number c = search (past_named, refl, rules)
 
 pub overflow_sub-result : goal.overflow_sub-result
 overflow_sub-result c = search (from_start, rules)

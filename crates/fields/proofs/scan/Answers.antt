@@ -1,4 +1,3 @@
-use Prim.Native.Nat.{◌-◌}
 use borrow.Author.Rules.{rules}
 use Rattle.fields.proofs.Steps.{digit_at_least, turn_digit, turn_mark, turn_blank, stop, ended}
 use Rattle.fields.proofs.scan.Goals as goal

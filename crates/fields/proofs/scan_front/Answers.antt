@@ -1,4 +1,3 @@
-use Prim.Native.Nat.{◌-◌}
 use borrow.Author.Rules.{rules}
 use Rattle.fields.proofs.Steps.{front_begun, front_turn_blank, front_turn_digit, front_digit_at_least, front_stop, front_ended}
 use Rattle.fields.proofs.scan_front.Goals as goal

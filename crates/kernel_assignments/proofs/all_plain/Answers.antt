@@ -1,13 +1,12 @@
-use Prim.Native.Nat.{◌-◌}
+use mathlib.Core.Path.{refl}
 use Rattle.kernel_assignments.proofs.Plain.{plain_start, plain_turn, plain_end}
-use borrow.Author.Rules.{rules}
 use Rattle.kernel_assignments.proofs.all_plain.Goals as goal
 
-pub loop-i-init : goal.loop-i-init
-loop-i-init c = (search rules, search (plain_start, rules))
+pub loop-b-init : goal.loop-b-init
+loop-b-init c = plain_start _
 
-pub loop-i-preserved : goal.loop-i-preserved
-loop-i-preserved c = (search rules, search (plain_turn, rules))
+pub loop-b-preserved : goal.loop-b-preserved
+loop-b-preserved c = plain_turn _ _ _ c.loop-b.invariant _ _ c.loop-b-test.true c.is_plain-good.ensures refl
 
 pub returns : goal.returns
-returns c = search (plain_end, rules)
+returns c = plain_end _ _ _ c.loop-b.invariant c.loop-b-test.false

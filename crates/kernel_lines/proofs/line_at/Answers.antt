@@ -1,12 +1,9 @@
-use Rattle.kernel_lines.proofs.Places.{line_none, line_ended, line_last}
+use Rattle.kernel_lines.proofs.Places.{line_none, line_is}
 use borrow.Author.Rules.{rules}
 use Rattle.kernel_lines.proofs.line_at.Goals as goal
 
 pub returns-then-text-at : goal.returns-then-text-at
 returns-then-text-at c = search (line_none, rules)
 
-pub returns-then-stop-text : goal.returns-then-stop-text
-returns-then-stop-text c = search (line_ended, rules)
-
 pub returns : goal.returns
-returns c = search (line_last, rules)
+returns c = search (line_is, rules)

@@ -7,11 +7,11 @@ use Rattle.kernel_numbers.proofs.read_short.Goals as goal
 
 pub returns : goal.returns
 returns c = number_good _ _ _ _ _ _ _ _
-    c.after_sign-sign_end.ensures.value
+    c.after_one-sign_end.ensures.value
     c.digits_from-whole.ensures.at_value
-    c.after_point-point_end.ensures.value
+    c.after_one-point_end.ensures.value
     c.digits_from-both.ensures.at_value
-    c.after_letter-letter_end.ensures.value
+    c.after_one-letter_end.ensures.value
     c.after_power_sign-power_sign_end.ensures.value
     c.read_power-power.ensures.at_value
     _ _

@@ -5,5 +5,5 @@ use Rattle.kernel_numbers.proofs.shifted.Goals as goal
 pub returns-then-down : goal.returns-then-down
 returns-then-down c = search (shift_down, rules)
 
-pub returns : goal.returns
-returns c = search (shift_up, rules)
+pub returns-else-down : goal.returns-else-down
+returns-else-down c = search (shift_up, rules)

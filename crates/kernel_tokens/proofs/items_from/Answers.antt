@@ -1,4 +1,3 @@
-use Prim.Native.Nat.{◌-◌}
 use Rattle.kernel_tokens.proofs.Items.{items_gap, items_turn, items_end}
 use borrow.Author.Rules.{rules}
 use Rattle.kernel_tokens.proofs.items_from.Goals as goal

@@ -5,5 +5,5 @@ use Rattle.kernel_values.proofs.plus_time.Goals as goal
 pub returns-then-v-lt-LIMIT : goal.returns-then-v-lt-LIMIT
 returns-then-v-lt-LIMIT c = search (plus_fits, rules)
 
-pub returns : goal.returns
-returns c = search (plus_beyond, rules)
+pub returns-else-v-lt-LIMIT : goal.returns-else-v-lt-LIMIT
+returns-else-v-lt-LIMIT c = search (plus_beyond, rules)

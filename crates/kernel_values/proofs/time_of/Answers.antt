@@ -1,12 +1,9 @@
-use Rattle.kernel_values.proofs.Numbers.{time_malformed, time_inexact, time_told}
+use Rattle.kernel_values.proofs.Numbers.{time_none, time_told}
 use borrow.Author.Rules.{rules}
 use Rattle.kernel_values.proofs.time_of.Goals as goal
 
 pub returns-in-Malformed : goal.returns-in-Malformed
-returns-in-Malformed c = search (time_malformed, rules)
-
-pub returns-in-Inexact : goal.returns-in-Inexact
-returns-in-Inexact c = search (time_inexact, rules)
+returns-in-Malformed c = time_none _ c.in-Malformed.is
 
 pub returns-in-Plus : goal.returns-in-Plus
 returns-in-Plus c = search (time_told, rules)

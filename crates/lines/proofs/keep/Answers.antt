@@ -1,13 +1,9 @@
 use borrow.Author.Rules.{rules}
-use lib.Seq.{paste-zero}
-use Rattle.lines.proofs.Keeping.{copy_next, copy_done}
+use Rattle.lines.proofs.Keeping.{kept_part}
 use Rattle.lines.proofs.keep.Goals as goal
 
-pub loop-i-preserved : goal.loop-i-preserved
-loop-i-preserved c = (search rules, search (copy_next, rules), search rules)
+pub returns-clause-value : goal.returns-clause-value
+returns-clause-value c = rw (← c.min-n.ensures)
 
-pub loop-i-init : goal.loop-i-init
-loop-i-init c = search (paste-zero, rules)
-
-pub returns : goal.returns
-returns c = search (copy_done, rules)
+pub returns-clause-line_after : goal.returns-clause-line_after
+returns-clause-line_after c = kept_part _ _ _ _ _ c.min-n.ensures c.copy_from_slice.ensures.after

@@ -5,8 +5,8 @@ use Rattle.packet_bytes.proofs.write_data.Goals as goal
 pub write_part-middle-requires : goal.write_part-middle-requires
 write_part-middle-requires c = search (second_room, rules)
 
-pub write_time-requires : goal.write_time-requires
-write_time-requires c = search (first_room, rules)
+pub write_pair-requires : goal.write_pair-requires
+write_pair-requires c = search (first_room, rules)
 
 pub returns : goal.returns
 returns c = search (both_written, rules)

@@ -5,8 +5,8 @@ use Rattle.packet_bytes.proofs.write_front.Goals as goal
 pub write_length-middle-requires : goal.write_length-middle-requires
 write_length-middle-requires c = search (second_room, rules)
 
-pub write_words-requires : goal.write_words-requires
-write_words-requires c = search (first_room, rules)
+pub write_pair-requires : goal.write_pair-requires
+write_pair-requires c = search (first_room, rules)
 
 pub returns : goal.returns
 returns c = search (both_written, rules)

@@ -1,4 +1,3 @@
-use Prim.Native.Nat.{◌-◌}
 use borrow.Author.Rules.{rules}
 use Rattle.packet_octets.proofs.Numbers.{read_start, times_fits, sum_fits, read_next, read_all, read_small}
 use Rattle.packet_octets.proofs.number_at.Goals as goal

@@ -1,5 +1,3 @@
-use Prim.Native.Nat.{◌-◌}
-use native.Mathlib.Omega.{arith}
 use borrow.Author.Rules.{rules}
 use Rattle.packet_octets.proofs.Writing.{octets_before, octets_all, octet_next, octets_done}
 use Rattle.packet_octets.proofs.write_octets.Goals as goal
@@ -9,15 +7,6 @@ overflow_sub-start c = search (octets_before, rules)
 
 pub loop-at-init : goal.loop-at-init
 loop-at-init c = search (octets_all, rules)
-
-pub overflow_sub-at : goal.overflow_sub-at
-overflow_sub-at c = omega arith
-
-pub bounds-buffer-at : goal.bounds-buffer-at
-bounds-buffer-at c = omega arith
-
-pub loop-at-smaller : goal.loop-at-smaller
-loop-at-smaller c = omega arith
 
 pub loop-at-preserved : goal.loop-at-preserved
 loop-at-preserved c = search (octet_next, rules)

@@ -5,6 +5,3 @@ use Rattle.packet_octets.proofs.write_octets.Given as goal
 
 abbrev pub invariant-loop-at : goal.invariant-loop-at
 invariant-loop-at l = Left (octets l.n l.x) (octets (l.at - l.start) l.rest) l.end l.at l.initial.buffer l.buffer
-
-abbrev pub decreases-loop-at : goal.decreases-loop-at
-decreases-loop-at l = l.at

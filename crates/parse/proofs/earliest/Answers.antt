@@ -1,4 +1,3 @@
-use Prim.Native.Nat.{◌-◌}
 use borrow.Author.Rules.{rules}
 use Rattle.parse.proofs.Slash.{found_front, none_stop, walks}
 use Rattle.parse.proofs.earliest.Goals as goal

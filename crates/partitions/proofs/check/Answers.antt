@@ -1,6 +1,5 @@
 use mathlib.Core.Path.{ap}
 use mathlib.Core.Bool.{not}
-use Prim.Native.Nat.{◌-◌}
 use mathlib.Core.Path.{refl}
 use borrow.Author.Rules.{rules}
 use Rattle.partitions.proofs.Rows.{in_order, sum_fits, rows_start, rows_turn}
@@ -29,7 +28,7 @@ pub overflow_add-total : goal.overflow_add-total
 overflow_add-total c = sum_fits _ _ _ _ c.row_ok.ensures (ap not c.if-not-row_ok.false)
 
 pub loop-i-preserved : goal.loop-i-preserved
-loop-i-preserved c = (search rules, rows_turn _ _ _ _ _ c.loop-i.invariant.1 _ _ refl refl c.row_ok.ensures (ap not c.if-not-row_ok.false))
+loop-i-preserved c = rows_turn _ _ _ _ _ c.loop-i.invariant _ _ refl refl c.row_ok.ensures (ap not c.if-not-row_ok.false)
 
 pub returns : goal.returns
 returns c = search (accepted, refl, rules)

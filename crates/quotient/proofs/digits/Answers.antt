@@ -1,4 +1,4 @@
-use Rattle.std.proofs.Common.{◌-◌, arith, rules}
+use Rattle.std.proofs.Common.{arith, rules}
 use Rattle.quotient.proofs.Turns.{first_fits, raised_fits, first_raised, first_turn, digit_lt, next_word_fits, next_turn, last_turn}
 use Rattle.quotient.proofs.digits.Goals as goal
 

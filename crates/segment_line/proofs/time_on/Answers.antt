@@ -5,8 +5,8 @@ use Rattle.segment_line.proofs.time_on.Goals as goal
 pub later-requires : goal.later-requires
 later-requires c = search (line_fits, rules)
 
-pub returns-in-Fits : goal.returns-in-Fits
-returns-in-Fits c = search (line_end, rules)
+pub returns-in-Some : goal.returns-in-Some
+returns-in-Some c = search (line_end, rules)
 
-pub returns-in-TooLarge : goal.returns-in-TooLarge
-returns-in-TooLarge c = search (line_never, rules)
+pub returns-in-None : goal.returns-in-None
+returns-in-None c = search (line_never, rules)

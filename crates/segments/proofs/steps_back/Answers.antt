@@ -1,5 +1,4 @@
 use borrow.Author.Rules.{rules}
-use Prim.Native.Nat.{◌-◌}
 use Rattle.segments.proofs.Steps.{row_in, none_start, times_up, none_turn, step_found, none_found}
 use Rattle.segments.proofs.steps_back.Goals as goal
 

@@ -1,13 +1,13 @@
-use Rattle.stamp_time.proofs.Composed.{message_out, message_timed}
+use Rattle.std.proofs.lemmas.Result.{err_from_is_err_and}
 use Rattle.message.proofs.Trailer.{start_at}
-use borrow.Author.Rules.{rules}
+use Rattle.stamp_time.proofs.Composed.{message_out, message_timed}
 use Rattle.stamp_time.proofs.time_of_message.Goals as goal
 
+pub returns-in_err-start : goal.returns-in_err-start
+returns-in_err-start c = let p = err_from_is_err_and c.from_residual.result c.from_residual.ensures.1 in rw (p.1, p.2) (message_out _ _ _ _ _ c.text_start.ensures _ c.in_err-start.was)
+
 pub text_part-text-requires : goal.text_part-text-requires
-text_part-text-requires c = search (start_at, rules)
+text_part-text-requires c = start_at _ _ c.text_start.ensures _ c.in_ok-start.was
 
-pub returns-in-At : goal.returns-in-At
-returns-in-At c = search (message_timed, rules)
-
-pub returns-in-Refused : goal.returns-in-Refused
-returns-in-Refused c = search (message_out, rules)
+pub returns : goal.returns
+returns c = message_timed _ _ _ _ _ c.text_start.ensures _ _ _ c.in_ok-start.was c.text_part-text.ensures c.time_of_stamp.ensures

@@ -1,14 +1,7 @@
-use borrow.Author.Rules.{rules}
-use Rattle.layouts.proofs.Units.{measured_in_limits}
-use Rattle.tables.proofs.Accepted.{table_facts}
-use Rattle.succession.proofs.Calls.{checked_refused, succession_older}
+use Rattle.succession_rules.specs.Succession.{succession}
+use Rattle.succession.proofs.Calls.{both_answered}
 use Rattle.succession.proofs.succeeds.Goals as goal
 
-pub accept-requires : goal.accept-requires
-accept-requires c = search (measured_in_limits, rules)
-
-pub succeeds_after-requires : goal.succeeds_after-requires
-succeeds_after-requires c = search (table_facts, rules)
-
-pub returns-in-Refused : goal.returns-in-Refused
-returns-in-Refused c = search (succession_older, checked_refused, rules)
+pub returns : goal.returns
+unfolding succession
+returns c = both_answered _ _ _ _ _ c.in_ok-older_basis.ensures.facts c.succeeds_within-succession.ensures

@@ -1,9 +1,7 @@
-use Prim.Native.Nat.{◌-◌}
-use Rattle.succession_rows.proofs.Segments.{SharedTo}
+use Rattle.rules.specs.Segments.{segments}
+use Rattle.succession_rules.specs.Kept.{segment_kept}
+use Rattle.succession_rows.proofs.Scanned.{HeldTo}
 use Rattle.succession_rows.proofs.shared_rows.Given as goal
 
 abbrev pub invariant-loop-i : goal.invariant-loop-i
-invariant-loop-i l = SharedTo l.older_counts l.older_times l.older_rates l.counts l.times l.rates l.i
-
-abbrev pub decreases-loop-i : goal.decreases-loop-i
-decreases-loop-i l = l.n - l.i
+invariant-loop-i l = HeldTo (segment_kept (segments l.older_counts l.older_times l.older_rates) (segments l.counts l.times l.rates)) l.i

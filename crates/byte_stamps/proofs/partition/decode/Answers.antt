@@ -1,19 +1,16 @@
-use Prim.Native.Nat.{◌-◌}
+use native.Mathlib.Omega.{arith}
 use borrow.Author.Rules.{rules}
-use Rattle.decode.proofs.Searching.{search_start, start_there, end_there, last_sum, next_fits, search_next, search_fits, in_order, here_partition, here_fits, last_partition, last_fits, decoded_count}
+use Rattle.decode.proofs.Searching.{search_start, start_there, end_there, last_sum, search_next, search_fits, in_order, here_partition, here_fits, last_partition, last_fits, decoded_count}
 use Rattle.byte_stamps.proofs.partition.decode.Goals as goal
 
 pub loop-i-init : goal.loop-i-init
 loop-i-init c = search (search_start, rules)
 
-pub overflow_add-i : goal.overflow_add-i
-overflow_add-i c = search (next_fits, rules)
-
 pub number_at-start-requires : goal.number_at-start-requires
 number_at-start-requires c = search (start_there, rules)
 
-pub number_at-end-requires : goal.number_at-end-requires
-number_at-end-requires c = search (end_there, rules)
+pub number_at-requires : goal.number_at-requires
+number_at-requires c = search (end_there, rules)
 
 pub overflow_sub-next : goal.overflow_sub-next
 overflow_sub-next c = search (in_order, rules)
@@ -33,14 +30,11 @@ returns-then-encoded-next-clause-partition_value c = search (here_partition, rul
 pub returns-then-encoded-next-clause-count_value : goal.returns-then-encoded-next-clause-count_value
 returns-then-encoded-next-clause-count_value c = search (here_partition, decoded_count, rules)
 
-pub overflow_add-i-in-loop-i : goal.overflow_add-i-in-loop-i
-overflow_add-i-in-loop-i c = search (next_fits, rules)
-
 pub loop-i-preserved : goal.loop-i-preserved
-loop-i-preserved c = search (search_next, rules)
+loop-i-preserved c = search_next _ _ _ c.requires _ _ c.loop-i.invariant _ _ c.number_at-start.ensures c.number_at.ensures _ c.rows-last.ensures (omega arith) c.if-encoded-next.false
 
-pub number_at-start-requires-2 : goal.number_at-start-requires-2
-number_at-start-requires-2 c = search (start_there, rules)
+pub number_at-requires-2 : goal.number_at-requires-2
+number_at-requires-2 c = search (start_there, rules)
 
 pub overflow_sub-result-2 : goal.overflow_sub-result-2
 overflow_sub-result-2 c = search (last_sum, rules)

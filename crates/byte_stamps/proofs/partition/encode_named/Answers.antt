@@ -1,18 +1,12 @@
 use borrow.Author.Rules.{rules}
-use Rattle.encode.proofs.Sums.{zero_named, past_named, named_start, named_end, named_before, named_inside, named_outside, from_start, named_fits}
+use Rattle.encode.proofs.Sums.{named_start, named_end, named_before, named_inside, named_outside, from_start, named_fits}
 use Rattle.byte_stamps.proofs.partition.encode_named.Goals as goal
-
-pub returns-then-number-lt1 : goal.returns-then-number-lt1
-returns-then-number-lt1 c = search (zero_named, rules)
-
-pub returns-then-n-number : goal.returns-then-n-number
-returns-then-n-number c = search (past_named, rules)
 
 pub number_at-start-requires : goal.number_at-start-requires
 number_at-start-requires c = search (named_start, rules)
 
-pub number_at-end-requires : goal.number_at-end-requires
-number_at-end-requires c = search (named_end, rules)
+pub number_at-requires : goal.number_at-requires
+number_at-requires c = search (named_end, rules)
 
 pub lengths_before-before-requires-clause-row_in_bounds : goal.lengths_before-before-requires-clause-row_in_bounds
 lengths_before-before-requires-clause-row_in_bounds c = search (named_before, rules)

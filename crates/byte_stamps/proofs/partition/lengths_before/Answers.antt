@@ -1,4 +1,3 @@
-use Prim.Native.Nat.{◌-◌}
 use mathlib.Core.Path.{refl}
 use borrow.Author.Rules.{rules}
 use Rattle.encode.proofs.Sums.{before_start, before_next, in-ends, before_fits, before_all}
@@ -11,10 +10,10 @@ pub overflow_add-before : goal.overflow_add-before
 overflow_add-before c = rw c.less-before.ensures (before_fits _ _ _ _ _ c.number_at-in-loop-i.ensures c.number_at.ensures c.requires.listed _ refl (search rules) _ (search rules))
 
 pub loop-i-preserved : goal.loop-i-preserved
-loop-i-preserved c = (search rules, rw c.less-before.ensures (before_next _ _ _ _ _ c.number_at-in-loop-i.ensures c.number_at.ensures _ (search rules)))
+loop-i-preserved c = (rw c.less-before.ensures (before_next _ _ _ _ _ c.number_at-in-loop-i.ensures c.number_at.ensures _ (search rules)))
 
 pub loop-i-init : goal.loop-i-init
-loop-i-init c = (search rules, search (before_start, rules))
+loop-i-init c = search (before_start, rules)
 
 pub returns : goal.returns
 returns c = search (before_all, rules)

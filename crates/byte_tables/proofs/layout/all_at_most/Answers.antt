@@ -1,4 +1,3 @@
-use Prim.Native.Nat.{◌-◌}
 use borrow.Author.Rules.{rules}
 use Rattle.layouts.proofs.Walks.{all_start, all_turn, all_stop, all_end}
 use Rattle.byte_tables.proofs.layout.all_at_most.Goals as goal

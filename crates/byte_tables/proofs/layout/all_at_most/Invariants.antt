@@ -1,4 +1,3 @@
-use Prim.Native.Nat.{◌-◌, ◌≤◌}
 use lib.Dec.{leb}
 use lib.ListN.{take}
 use Rattle.base.specs.Scans.{all}
@@ -7,7 +6,4 @@ use Rattle.layouts.proofs.Walks.{AllFrom}
 use Rattle.byte_tables.proofs.layout.all_at_most.Given as goal
 
 abbrev pub invariant-loop-i : goal.invariant-loop-i
-invariant-loop-i l = (l.i ≤ l.n) × AllFrom (all (λ x. leb x l.limit) (take l.n (numbers l.s))) (numbers l.s) l.n l.limit l.i
-
-abbrev pub decreases-loop-i : goal.decreases-loop-i
-decreases-loop-i l = l.n - l.i
+invariant-loop-i l = AllFrom (all (λ x. leb x l.limit) (take l.n (numbers l.s))) (numbers l.s) l.n l.limit l.i

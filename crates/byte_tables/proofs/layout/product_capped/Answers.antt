@@ -1,4 +1,3 @@
-use Prim.Native.Nat.{◌-◌}
 use borrow.Author.Rules.{rules}
 use Rattle.layouts.proofs.Walks.{product_start, product_turn, product_end}
 use Rattle.byte_tables.proofs.layout.product_capped.Goals as goal

@@ -1,4 +1,3 @@
-use Prim.Native.Nat.{◌-◌}
 use Rattle.kernel_tokens.proofs.ValueEnds.{quoted_start, quoted_over, quoted_turn, quoted_end}
 use borrow.Author.Rules.{rules}
 use Rattle.kernel_tokens.proofs.values.read_quoted.Goals as goal

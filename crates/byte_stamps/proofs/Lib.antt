@@ -1,2 +1,0 @@
--- A stamp's reading from its parse.
-pub mod Parsed

@@ -1,2 +1,0 @@
--- What comes back of an answer: as the code tells it.
-pub mod Back

@@ -1,2 +1,0 @@
--- Each way out, by the numbers that were mixed.
-pub mod Mixing

@@ -1,2 +1,0 @@
--- The two ways out of the call.
-pub mod Seconds

@@ -1,0 +1,2 @@
+-- What holds where both tables are accepted.
+pub mod Both
