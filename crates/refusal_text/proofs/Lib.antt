@@ -1,2 +1,3 @@
--- A refusal put together of its fields.
+-- The sentences, and a refusal put together of its fields.
+pub mod Sentences
 pub mod Refusals

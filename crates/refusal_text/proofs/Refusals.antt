@@ -21,7 +21,7 @@ fields_join a b c = append_assoc (a ++ (9 ∷ [])) (b ++ (9 ∷ [])) c ∙ (appe
 module _ (k : Refusal) (number : ℕ) (place : Option ℕ) (text : List ℕ) (after at numbered placed end r : ℕ) {entry first second third exit : List ℕ} (room : at + longest_refusal ≤ length entry)
     (d : number ≡ number_of k) (n : Written (decimal_of number ++ (9 ∷ [])) numbered at entry first) (a : numbered ≤ at + longest_number + 1)
     (e : place ≡ place_of k) (p : Written (place_text place ++ (9 ∷ [])) placed numbered first second) (b : placed ≤ numbered + 21)
-    (f : text ≡ sentence (number_of k)) (s : Written text end placed second third) (c : length text ≤ longest_sentence)
+    (f : text ≡ sentence number) (s : Written text end placed second third) (c : length text ≤ longest_sentence)
     (t : Written (after ∷ []) r end third exit) where
   pub refusal_put : Written (refusal_text (as_numbered k) ++ (after ∷ [])) r at entry exit
   unfolding refusal_text
@@ -29,4 +29,4 @@ module _ (k : Refusal) (number : ℕ) (place : Option ℕ) (text : List ℕ) (af
       let two = written_then n p (omega arith) in
       let three = written_then two s (omega arith) in
       let all = written_then (rw (fields_join (decimal_of number) (place_text place) text) at three) t (omega (arith, s.ends)) in
-      rw (← f, ← d, ← e) all
+      rw (← d, ← f, ← e) all

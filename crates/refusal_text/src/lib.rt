@@ -3,7 +3,7 @@
 
 ghost use Rattle.std.specs.Prelude.{◌≡◌, [], ◌∷◌, ◌++◌, ◌+◌, ◌≤◌, ◌<◌, length};
 ghost use Rattle.decimal.specs.Writing.{Written};
-ghost use Rattle.rules.specs.Answer.{as_numbered, number_of};
+ghost use Rattle.rules.specs.Answer.{as_numbered};
 ghost use Rattle.command_rules.specs.Sentences.{sentence};
 ghost use Rattle.command_rules.specs.Fields.{place_text, refusal_text};
 ghost use Rattle.refusal_text.specs.Longest.{longest_sentence, longest_refusal};
@@ -19,9 +19,10 @@ pub fn put_refusal(out: &mut [u8], at: usize, refusal: Refusal, after: u8) -> us
     ensures written { Written (refusal_text (as_numbered refusal) ++ (after ∷ [])) result at out.old out.new }
     ensures upper_bound { result ≤ at + longest_refusal }
 {
-    let numbered = put_number(out, at, refusal.number(), TAB);
+    let number = refusal.number();
+    let numbered = put_number(out, at, number, TAB);
     let placed = put_place(out, numbered, refusal.place());
-    let end = put_bytes(out, placed, sentence(refusal));
+    let end = put_bytes(out, placed, sentence(number));
     put_byte(out, end, after)
 }
 
@@ -38,37 +39,33 @@ fn put_place(out: &mut [u8], at: usize, place: Option<usize>) -> usize
     }
 }
 
-fn sentence(refusal: Refusal) -> &'static [u8]
-    ensures value { result.now ≡ sentence (number_of refusal) }
+// The sentence of a refusal's number.
+fn sentence(number: u64) -> &'static [u8]
+    ensures value { result.now ≡ sentence number }
     ensures upper_bound { length result.now ≤ longest_sentence }
 {
-    match refusal {
-        Refusal::Layout => b"the layout breaks its rules",
-        Refusal::Partitions { .. } => b"the partitions break their rules",
-        Refusal::Segments { .. } => b"the segments break their rules",
-        Refusal::TextTooLong => b"the text is too long",
-        Refusal::ByteNotAllowed { .. } => b"a byte that is not allowed",
-        Refusal::FirstFieldMissing => b"the first field is missing",
-        Refusal::TooManyFields { .. } => b"too many fields",
-        Refusal::FieldBelowOffset { .. } => b"a field below its offset",
-        Refusal::TooLarge { .. } => b"a number that is too large",
-        Refusal::CountTooLarge => b"a number that is too large",
-        Refusal::NoSuchPartition => b"no such partition",
-        Refusal::OutsidePartition => b"the count is in no such partition",
-        Refusal::BeyondTotal => b"the encoded count is above the total",
-        Refusal::BeforeFirstSegment => b"before the first segment",
-        Refusal::TimeOutOfRange => b"the time or its count is out of range",
-        Refusal::DoubleForm => b"refused",
-        Refusal::BufferTooShort => b"too little room",
-        Refusal::FirstLine => b"the first line is not KPL/SCLK",
-        Refusal::Assignment => b"the text is not of a kernel's form",
-        Refusal::NotExact => b"a number that is not exact in its unit",
-        Refusal::NoTrailer => b"a message under two bytes",
-        Refusal::NoText => b"a message without a text",
-        Refusal::WrongDistance => b"a message shorter than the text it claims",
-        Refusal::TooManyMicroseconds => b"refused",
-        Refusal::PacketLength => b"refused",
-        Refusal::PacketForm => b"refused",
-        Refusal::NeverReset => b"refused",
+    match number {
+        1 => b"the layout breaks its rules",
+        2 => b"the partitions break their rules",
+        3 => b"the segments break their rules",
+        4 => b"the text is too long",
+        5 => b"a byte that is not allowed",
+        6 => b"the first field is missing",
+        7 => b"too many fields",
+        8 => b"a field below its offset",
+        9 => b"a number that is too large",
+        10 => b"no such partition",
+        11 => b"the count is in no such partition",
+        12 => b"the encoded count is above the total",
+        13 => b"before the first segment",
+        14 => b"the time or its count is out of range",
+        16 => b"too little room",
+        18 => b"the first line is not KPL/SCLK",
+        19 => b"the text is not of a kernel's form",
+        20 => b"a number that is not exact in its unit",
+        21 => b"a message under two bytes",
+        22 => b"a message without a text",
+        23 => b"a message shorter than the text it claims",
+        _ => b"refused",
     }
 }

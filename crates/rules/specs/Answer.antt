@@ -95,6 +95,7 @@ number_of R.TooManyMicroseconds = 24
 number_of R.PacketLength = 25
 number_of R.PacketForm = 26
 number_of R.NeverReset = 27
+number_of (R.Unlisted k) = k.number
 
 abbrev pub place_of : Refusal → Place ℕ
 place_of R.Layout = None
@@ -124,6 +125,7 @@ place_of R.TooManyMicroseconds = None
 place_of R.PacketLength = None
 place_of R.PacketForm = None
 place_of R.NeverReset = None
+place_of (R.Unlisted k) = k.place
 
 abbrev pub as_numbered : Refusal → Numbered
 as_numbered k = record { number = number_of k; place = place_of k }

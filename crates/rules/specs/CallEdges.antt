@@ -5,7 +5,9 @@ use Prim.Native.String.{String}
 use Rattle.std.specs.Float.{nan, inf}
 use Rattle.rules.specs.declared.Layout.{Layout}
 use Rattle.rules.specs.declared.Reading.{Reading}
+use Rattle.rules.specs.declared.refusal.Refusal.{Refusal}
 use Rattle.rules.specs.declared.refusal.Refusal.TheVariants as R
+use Rattle.rules.specs.Listed.{listed}
 use Rattle.rules.specs.Answer.{as_numbered, Answer, answer, refused, refuse, refuse_at, numbered, placed, reading, time_of_count, count_at_time, timed_stamp, Numbered, answer_of}
 use Rattle.rules.specs.Partitions.{Partitions, partitions}
 use Rattle.rules.specs.Segments.{Segments, segments}
@@ -243,22 +245,32 @@ numbers_mean = (refl, refl)
 pub places_mean : (map (λ (r : Numbered). r.place) (numbered 5 ∷ placed 5 0 ∷ placed 5 3 ∷ []) ≡ (None ∷ Some 0 ∷ Some 3 ∷ [])) × (((placed 5 3).number ∷ (placed 2 0).number ∷ []) ≡ (5 ∷ 2 ∷ []))
 places_mean = (refl, refl)
 
--- What each case of a call's result means: its own value, or the refusal of its own number and place.
-pub answers_mean :
-    (map answer_of (Ok (reading 5) ∷ Ok (reading 6) ∷ Err R.TextTooLong ∷ Err (R.TooManyFields 2) ∷ [])
-    ≡ (answer (reading 5) ∷ answer (reading 6) ∷ refuse 4 ∷ refuse_at 7 2 ∷ []))
-    × (map answer_of (Ok (time_of_count (pos 5)) ∷ Ok (time_of_count (negsuc 6)) ∷ Err R.BeyondTotal ∷ Err (R.Segments 2) ∷ [])
-    ≡ (answer (time_of_count (pos 5)) ∷ answer (time_of_count (negsuc 6)) ∷ refuse 12 ∷ refuse_at 3 2 ∷ []))
-    × (map answer_of (Ok (count_at_time 5) ∷ Ok (count_at_time 6) ∷ Err R.BeforeFirstSegment ∷ Err (R.Partitions 2) ∷ [])
-    ≡ (answer (count_at_time 5) ∷ answer (count_at_time 6) ∷ refuse 13 ∷ refuse_at 2 2 ∷ []))
-    × (map answer_of (Ok (timed_stamp 5 (pos 7)) ∷ Ok (timed_stamp 6 (negsuc 8)) ∷ Err R.OutsidePartition ∷ Err (R.TooLarge 2) ∷ [])
-    ≡ (answer (timed_stamp 5 (pos 7)) ∷ answer (timed_stamp 6 (negsuc 8)) ∷ refuse 11 ∷ refuse_at 9 2 ∷ []))
-    × (map (answer_of {A = ℕ}) (Ok 5 ∷ Ok 6 ∷ Err R.CountTooLarge ∷ Err (R.ByteNotAllowed 2) ∷ []) ≡ (answer 5 ∷ answer 6 ∷ refuse 9 ∷ refuse_at 5 2 ∷ []))
-    × (map answer_of (Ok true ∷ Ok false ∷ Err R.Layout ∷ Err (R.FieldBelowOffset 2) ∷ []) ≡ (answer true ∷ answer false ∷ refuse 1 ∷ refuse_at 8 2 ∷ []))
-    × (map answer_of (Ok nan ∷ Ok (inf true) ∷ Err R.DoubleForm ∷ []) ≡ (answer nan ∷ answer (inf true) ∷ refuse 15 ∷ []))
-answers_mean = (refl, refl, refl, refl, refl, refl, refl)
+-- A refusal that is none of the table, with a place and without one.
+abbrev pub other_at : (k i : ℕ) → listed k (Some i) ≡ false → Refusal
+other_at k i h = R.Unlisted (record { number = k; place = Some i; unlisted = h })
 
--- Every refusal of the code, by its number and with its own place.
+abbrev pub other : (k : ℕ) → listed k None ≡ false → Refusal
+other k h = R.Unlisted (record { number = k; place = None; unlisted = h })
+
+-- What each case of a call's result means: its own value, or the refusal of its own number and place, whichever that is.
+pub answers_mean : (j k i : ℕ) → (alone : listed j None ≡ false) → (at : listed k (Some i) ≡ false) →
+    (map answer_of (Ok (reading 5) ∷ Ok (reading 6) ∷ Err R.TextTooLong ∷ Err (R.TooManyFields 2) ∷ Err (other j alone) ∷ Err (other_at k i at) ∷ [])
+    ≡ (answer (reading 5) ∷ answer (reading 6) ∷ refuse 4 ∷ refuse_at 7 2 ∷ refuse j ∷ refuse_at k i ∷ []))
+    × (map answer_of (Ok (time_of_count (pos 5)) ∷ Ok (time_of_count (negsuc 6)) ∷ Err R.TextTooLong ∷ Err R.BeyondTotal ∷ Err (R.Segments 2) ∷ Err (other j alone) ∷ Err (other_at k i at) ∷ [])
+    ≡ (answer (time_of_count (pos 5)) ∷ answer (time_of_count (negsuc 6)) ∷ refuse 4 ∷ refuse 12 ∷ refuse_at 3 2 ∷ refuse j ∷ refuse_at k i ∷ []))
+    × (map answer_of (Ok (count_at_time 5) ∷ Ok (count_at_time 6) ∷ Err R.BeforeFirstSegment ∷ Err (R.Partitions 2) ∷ Err (other j alone) ∷ Err (other_at k i at) ∷ [])
+    ≡ (answer (count_at_time 5) ∷ answer (count_at_time 6) ∷ refuse 13 ∷ refuse_at 2 2 ∷ refuse j ∷ refuse_at k i ∷ []))
+    × (map answer_of (Ok (timed_stamp 5 (pos 7)) ∷ Ok (timed_stamp 6 (negsuc 8)) ∷ Err R.OutsidePartition ∷ Err (R.TooLarge 2) ∷ Err (other j alone) ∷ Err (other_at k i at) ∷ [])
+    ≡ (answer (timed_stamp 5 (pos 7)) ∷ answer (timed_stamp 6 (negsuc 8)) ∷ refuse 11 ∷ refuse_at 9 2 ∷ refuse j ∷ refuse_at k i ∷ []))
+    × (map (answer_of {A = ℕ}) (Ok 5 ∷ Ok 6 ∷ Err R.BeyondTotal ∷ Err R.CountTooLarge ∷ Err (R.ByteNotAllowed 2) ∷ Err (other j alone) ∷ Err (other_at k i at) ∷ [])
+    ≡ (answer 5 ∷ answer 6 ∷ refuse 12 ∷ refuse 9 ∷ refuse_at 5 2 ∷ refuse j ∷ refuse_at k i ∷ []))
+    × (map answer_of (Ok true ∷ Ok false ∷ Err R.Layout ∷ Err (R.Segments 2) ∷ Err (R.FieldBelowOffset 2) ∷ Err (other j alone) ∷ Err (other_at k i at) ∷ [])
+    ≡ (answer true ∷ answer false ∷ refuse 1 ∷ refuse_at 3 2 ∷ refuse_at 8 2 ∷ refuse j ∷ refuse_at k i ∷ []))
+    × (map answer_of (Ok nan ∷ Ok (inf true) ∷ Err R.TimeOutOfRange ∷ Err R.DoubleForm ∷ Err (other j alone) ∷ Err (other_at k i at) ∷ [])
+    ≡ (answer nan ∷ answer (inf true) ∷ refuse 14 ∷ refuse 15 ∷ refuse j ∷ refuse_at k i ∷ []))
+answers_mean j k i alone at = (refl, refl, refl, refl, refl, refl, refl)
+
+-- Every refusal of the table, by its number and with its own place.
 pub refusals_mean : (i : ℕ) →
     map as_numbered
     (R.Layout ∷ R.Partitions i ∷ R.Segments i ∷ R.TextTooLong ∷ R.ByteNotAllowed i ∷ R.FirstFieldMissing ∷ R.TooManyFields i ∷ R.FieldBelowOffset i ∷ R.TooLarge i ∷ R.CountTooLarge

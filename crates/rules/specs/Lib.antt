@@ -1,6 +1,7 @@
 -- The meaning of document 01. A reader starts at Limits and goes down: the tables, reading, printing, time, the message, the double
 -- form. Then come cases by computation.
 pub mod Limits
+pub mod Listed
 pub mod Answer
 pub mod Layout
 pub mod Partitions

@@ -2,8 +2,10 @@
 #![tactic(auto)]
 
 pub use refusal::Refusal;
+pub use unlisted::Unlisted;
 
 mod refusal;
+mod unlisted;
 
 // A clock's fields: n moduli and n offsets, and the code of the output delimiter.
 // Slots after the n-th are not looked at.

@@ -1,10 +1,12 @@
-ghost use Rattle.std.specs.Prelude.{◌≡◌};
-ghost use Rattle.rules.specs.Answer.{number_of, place_of};
+ghost use Rattle.std.specs.Prelude.{◌≡◌, Some, None};
+ghost use Rattle.rules.specs.Answer.{as_numbered, number_of, place_of};
 
+use crate::unlisted::Unlisted;
 use std::error::Error;
 use std::fmt;
 
-// Why a call gives no answer: one of the table "What is refused" in docs/RULES.md. Rows and bytes are places, counted from 0.
+// Why a call gives no answer: one of the table "What is refused" in docs/RULES.md. Rows and bytes are places, counted from 0. A number and a place
+// say which it is.
 #[derive(Clone, Copy, Debug, PartialEq, Eq, Hash)]
 pub enum Refusal {
     Layout,
@@ -43,10 +45,73 @@ pub enum Refusal {
     PacketForm,
     // Of the second satellite: a reading of its counter before any accepted reset.
     NeverReset,
+    // None of the table: of another version of it. No call here answers it.
+    Unlisted(Unlisted),
 }
 
 impl Refusal {
-    // Its number in the table.
+    // The refusal that a number and a place tell, as one that was kept or sent as these two.
+    pub fn from_numbered(number: u64, place: Option<usize>) -> Refusal
+        ensures { as_numbered result ≡ record { number = number; place = place } }
+    {
+        match place {
+            Some(i) => Refusal::with_place(number, i),
+            None => Refusal::without_place(number),
+        }
+    }
+
+    #[tactic(auto, unfolding(crate::specs::Listed::listed, base::specs::Scans::among))]
+    fn with_place(number: u64, i: usize) -> Refusal
+        ensures { as_numbered result ≡ record { number = number; place = Some i } }
+    {
+        match number {
+            2 => Refusal::Partitions { row: i },
+            3 => Refusal::Segments { row: i },
+            5 => Refusal::ByteNotAllowed { at: i },
+            7 => Refusal::TooManyFields { at: i },
+            8 => Refusal::FieldBelowOffset { at: i },
+            9 => Refusal::TooLarge { at: i },
+            _ => Refusal::Unlisted(Unlisted {
+                number,
+                place: Some(i),
+            }),
+        }
+    }
+
+    #[tactic(auto, unfolding(crate::specs::Listed::listed, base::specs::Scans::among))]
+    fn without_place(number: u64) -> Refusal
+        ensures { as_numbered result ≡ record { number = number; place = None } }
+    {
+        match number {
+            1 => Refusal::Layout,
+            4 => Refusal::TextTooLong,
+            6 => Refusal::FirstFieldMissing,
+            9 => Refusal::CountTooLarge,
+            10 => Refusal::NoSuchPartition,
+            11 => Refusal::OutsidePartition,
+            12 => Refusal::BeyondTotal,
+            13 => Refusal::BeforeFirstSegment,
+            14 => Refusal::TimeOutOfRange,
+            15 => Refusal::DoubleForm,
+            16 => Refusal::BufferTooShort,
+            18 => Refusal::FirstLine,
+            19 => Refusal::Assignment,
+            20 => Refusal::NotExact,
+            21 => Refusal::NoTrailer,
+            22 => Refusal::NoText,
+            23 => Refusal::WrongDistance,
+            24 => Refusal::TooManyMicroseconds,
+            25 => Refusal::PacketLength,
+            26 => Refusal::PacketForm,
+            27 => Refusal::NeverReset,
+            _ => Refusal::Unlisted(Unlisted {
+                number,
+                place: None,
+            }),
+        }
+    }
+
+    // Its number, in the table where it has a name here.
     pub fn number(self) -> u64
         ensures { result ≡ number_of self }
     {
@@ -78,6 +143,7 @@ impl Refusal {
             Refusal::PacketLength => 25,
             Refusal::PacketForm => 26,
             Refusal::NeverReset => 27,
+            Refusal::Unlisted(k) => k.number,
         }
     }
 
@@ -91,6 +157,7 @@ impl Refusal {
             | Refusal::TooManyFields { at }
             | Refusal::FieldBelowOffset { at }
             | Refusal::TooLarge { at } => Some(at),
+            Refusal::Unlisted(k) => k.place,
             _ => None,
         }
     }

@@ -31,7 +31,7 @@ pub fn succeeds(
 ) -> Result<Succession, TableRefusal>
     ensures { answered_as verdict_of result ≡ succession (table_of older older_starts.now older_ends.now older_counts.now older_times.now older_rates.now) (table_of newer newer_starts.now newer_ends.now newer_counts.now newer_times.now newer_rates.now) }
 {
-    let (older_basis, newer_basis) = accept_both(
+    let accepted = accept_both(
         older,
         older_starts,
         older_ends,
@@ -44,7 +44,8 @@ pub fn succeeds(
         newer_counts,
         newer_times,
         newer_rates,
-    )?;
+    );
+    let (older_basis, newer_basis) = accepted?;
     let succession = succeeds_within(
         older,
         older_starts,
@@ -82,7 +83,7 @@ pub fn horizon(
 ) -> Result<u64, TableRefusal>
     ensures { answered_of result ≡ horizon_of (table_of older older_starts.now older_ends.now older_counts.now older_times.now older_rates.now) (table_of newer newer_starts.now newer_ends.now newer_counts.now newer_times.now newer_rates.now) }
 {
-    let (older_basis, newer_basis) = accept_both(
+    let both = accept_both(
         older,
         older_starts,
         older_ends,
@@ -95,7 +96,8 @@ pub fn horizon(
         newer_counts,
         newer_times,
         newer_rates,
-    )?;
+    );
+    let (older_basis, newer_basis) = both?;
     let below = horizon_within(
         older,
         older_starts,

@@ -1,111 +1,93 @@
+use borrow.Author.Rules.{rules}
 use Rattle.rules.specs.Examples.{bytes}
 use Rattle.command_rules.specs.Sentences.{entry_or, sentences, sentence}
+use Rattle.refusal_text.proofs.Sentences.{last_resort}
 use Rattle.refusal_text.proofs.sentence.Goals as goal
 
-pub returns-in-Layout-clause-value : goal.returns-in-Layout-clause-value
+pub returns-in-1-clause-value : goal.returns-in-1-clause-value
 unfolding bytes entry_or sentences sentence
-returns-in-Layout-clause-value c = rw c.in-Layout.is
+returns-in-1-clause-value c = rw c.in-1.is
 
-pub returns-in-Partitions-clause-value : goal.returns-in-Partitions-clause-value
+pub returns-in-2-clause-value : goal.returns-in-2-clause-value
 unfolding bytes entry_or sentences sentence
-returns-in-Partitions-clause-value c = rw c.in-Partitions.is
+returns-in-2-clause-value c = rw c.in-2.is
 
-pub returns-in-Segments-clause-value : goal.returns-in-Segments-clause-value
+pub returns-in-3-clause-value : goal.returns-in-3-clause-value
 unfolding bytes entry_or sentences sentence
-returns-in-Segments-clause-value c = rw c.in-Segments.is
+returns-in-3-clause-value c = rw c.in-3.is
 
-pub returns-in-TextTooLong-clause-value : goal.returns-in-TextTooLong-clause-value
+pub returns-in-4-clause-value : goal.returns-in-4-clause-value
 unfolding bytes entry_or sentences sentence
-returns-in-TextTooLong-clause-value c = rw c.in-TextTooLong.is
+returns-in-4-clause-value c = rw c.in-4.is
 
-pub returns-in-ByteNotAllowed-clause-value : goal.returns-in-ByteNotAllowed-clause-value
+pub returns-in-5-clause-value : goal.returns-in-5-clause-value
 unfolding bytes entry_or sentences sentence
-returns-in-ByteNotAllowed-clause-value c = rw c.in-ByteNotAllowed.is
+returns-in-5-clause-value c = rw c.in-5.is
 
-pub returns-in-FirstFieldMissing-clause-value : goal.returns-in-FirstFieldMissing-clause-value
+pub returns-in-6-clause-value : goal.returns-in-6-clause-value
 unfolding bytes entry_or sentences sentence
-returns-in-FirstFieldMissing-clause-value c = rw c.in-FirstFieldMissing.is
+returns-in-6-clause-value c = rw c.in-6.is
 
-pub returns-in-TooManyFields-clause-value : goal.returns-in-TooManyFields-clause-value
+pub returns-in-7-clause-value : goal.returns-in-7-clause-value
 unfolding bytes entry_or sentences sentence
-returns-in-TooManyFields-clause-value c = rw c.in-TooManyFields.is
+returns-in-7-clause-value c = rw c.in-7.is
 
-pub returns-in-FieldBelowOffset-clause-value : goal.returns-in-FieldBelowOffset-clause-value
+pub returns-in-8-clause-value : goal.returns-in-8-clause-value
 unfolding bytes entry_or sentences sentence
-returns-in-FieldBelowOffset-clause-value c = rw c.in-FieldBelowOffset.is
+returns-in-8-clause-value c = rw c.in-8.is
 
-pub returns-in-TooLarge-clause-value : goal.returns-in-TooLarge-clause-value
+pub returns-in-9-clause-value : goal.returns-in-9-clause-value
 unfolding bytes entry_or sentences sentence
-returns-in-TooLarge-clause-value c = rw c.in-TooLarge.is
+returns-in-9-clause-value c = rw c.in-9.is
 
-pub returns-in-CountTooLarge-clause-value : goal.returns-in-CountTooLarge-clause-value
+pub returns-in-10-clause-value : goal.returns-in-10-clause-value
 unfolding bytes entry_or sentences sentence
-returns-in-CountTooLarge-clause-value c = rw c.in-CountTooLarge.is
+returns-in-10-clause-value c = rw c.in-10.is
 
-pub returns-in-NoSuchPartition-clause-value : goal.returns-in-NoSuchPartition-clause-value
+pub returns-in-11-clause-value : goal.returns-in-11-clause-value
 unfolding bytes entry_or sentences sentence
-returns-in-NoSuchPartition-clause-value c = rw c.in-NoSuchPartition.is
+returns-in-11-clause-value c = rw c.in-11.is
 
-pub returns-in-OutsidePartition-clause-value : goal.returns-in-OutsidePartition-clause-value
+pub returns-in-12-clause-value : goal.returns-in-12-clause-value
 unfolding bytes entry_or sentences sentence
-returns-in-OutsidePartition-clause-value c = rw c.in-OutsidePartition.is
+returns-in-12-clause-value c = rw c.in-12.is
 
-pub returns-in-BeyondTotal-clause-value : goal.returns-in-BeyondTotal-clause-value
+pub returns-in-13-clause-value : goal.returns-in-13-clause-value
 unfolding bytes entry_or sentences sentence
-returns-in-BeyondTotal-clause-value c = rw c.in-BeyondTotal.is
+returns-in-13-clause-value c = rw c.in-13.is
 
-pub returns-in-BeforeFirstSegment-clause-value : goal.returns-in-BeforeFirstSegment-clause-value
+pub returns-in-14-clause-value : goal.returns-in-14-clause-value
 unfolding bytes entry_or sentences sentence
-returns-in-BeforeFirstSegment-clause-value c = rw c.in-BeforeFirstSegment.is
+returns-in-14-clause-value c = rw c.in-14.is
 
-pub returns-in-TimeOutOfRange-clause-value : goal.returns-in-TimeOutOfRange-clause-value
+pub returns-in-16-clause-value : goal.returns-in-16-clause-value
 unfolding bytes entry_or sentences sentence
-returns-in-TimeOutOfRange-clause-value c = rw c.in-TimeOutOfRange.is
+returns-in-16-clause-value c = rw c.in-16.is
 
-pub returns-in-DoubleForm-clause-value : goal.returns-in-DoubleForm-clause-value
+pub returns-in-18-clause-value : goal.returns-in-18-clause-value
 unfolding bytes entry_or sentences sentence
-returns-in-DoubleForm-clause-value c = rw c.in-DoubleForm.is
+returns-in-18-clause-value c = rw c.in-18.is
 
-pub returns-in-BufferTooShort-clause-value : goal.returns-in-BufferTooShort-clause-value
+pub returns-in-19-clause-value : goal.returns-in-19-clause-value
 unfolding bytes entry_or sentences sentence
-returns-in-BufferTooShort-clause-value c = rw c.in-BufferTooShort.is
+returns-in-19-clause-value c = rw c.in-19.is
 
-pub returns-in-FirstLine-clause-value : goal.returns-in-FirstLine-clause-value
+pub returns-in-20-clause-value : goal.returns-in-20-clause-value
 unfolding bytes entry_or sentences sentence
-returns-in-FirstLine-clause-value c = rw c.in-FirstLine.is
+returns-in-20-clause-value c = rw c.in-20.is
 
-pub returns-in-Assignment-clause-value : goal.returns-in-Assignment-clause-value
+pub returns-in-21-clause-value : goal.returns-in-21-clause-value
 unfolding bytes entry_or sentences sentence
-returns-in-Assignment-clause-value c = rw c.in-Assignment.is
+returns-in-21-clause-value c = rw c.in-21.is
 
-pub returns-in-NotExact-clause-value : goal.returns-in-NotExact-clause-value
+pub returns-in-22-clause-value : goal.returns-in-22-clause-value
 unfolding bytes entry_or sentences sentence
-returns-in-NotExact-clause-value c = rw c.in-NotExact.is
+returns-in-22-clause-value c = rw c.in-22.is
 
-pub returns-in-NoTrailer-clause-value : goal.returns-in-NoTrailer-clause-value
+pub returns-in-23-clause-value : goal.returns-in-23-clause-value
 unfolding bytes entry_or sentences sentence
-returns-in-NoTrailer-clause-value c = rw c.in-NoTrailer.is
+returns-in-23-clause-value c = rw c.in-23.is
 
-pub returns-in-NoText-clause-value : goal.returns-in-NoText-clause-value
-unfolding bytes entry_or sentences sentence
-returns-in-NoText-clause-value c = rw c.in-NoText.is
-
-pub returns-in-WrongDistance-clause-value : goal.returns-in-WrongDistance-clause-value
-unfolding bytes entry_or sentences sentence
-returns-in-WrongDistance-clause-value c = rw c.in-WrongDistance.is
-
-pub returns-in-TooManyMicroseconds-clause-value : goal.returns-in-TooManyMicroseconds-clause-value
-unfolding bytes entry_or sentences sentence
-returns-in-TooManyMicroseconds-clause-value c = rw c.in-TooManyMicroseconds.is
-
-pub returns-in-PacketLength-clause-value : goal.returns-in-PacketLength-clause-value
-unfolding bytes entry_or sentences sentence
-returns-in-PacketLength-clause-value c = rw c.in-PacketLength.is
-
-pub returns-in-PacketForm-clause-value : goal.returns-in-PacketForm-clause-value
-unfolding bytes entry_or sentences sentence
-returns-in-PacketForm-clause-value c = rw c.in-PacketForm.is
-
-pub returns-in-NeverReset-clause-value : goal.returns-in-NeverReset-clause-value
-unfolding bytes entry_or sentences sentence
-returns-in-NeverReset-clause-value c = rw c.in-NeverReset.is
+pub returns-in_default-clause-value : goal.returns-in_default-clause-value
+unfolding bytes
+returns-in_default-clause-value c = search (last_resort, c.in_default, rules)
