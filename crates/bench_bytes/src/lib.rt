@@ -4,6 +4,9 @@
 use bench_report::{layout, unknown_zero};
 use std::rt::Env;
 
+// The ordinal of 0.
+pub const ZERO: u64 = 0x8000_0000_0000_0000;
+
 // Room for three numbers that begin at a byte up to 7.
 pub const FIELDS: usize = 32;
 

@@ -10,6 +10,8 @@ use layouts::measure;
 use rules::{Layout, Refusal};
 use tables::{Basis, accept_stamps};
 
+// Always inlined: as a call of its own it copies the layout, and measures it knowing nothing of it.
+#[inline(always)]
 pub fn accept_clock(layout: Layout, starts: &[u64], ends: &[u64]) -> Result<Basis, Refusal>
     ensures { answer_of result ≡ clock_basis layout (partitions starts.now ends.now) }
 {

@@ -3,6 +3,7 @@
 pub mod Limits
 pub mod Listed
 pub mod Answer
+pub mod Shown
 pub mod Layout
 pub mod Partitions
 pub mod Segments

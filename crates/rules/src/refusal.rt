@@ -164,6 +164,13 @@ impl Refusal {
 }
 
 impl fmt::Display for Refusal {
+    ghost use Rattle.std.specs.Prelude.{Some};
+    ghost use Rattle.rules.specs.Answer.{as_numbered};
+    ghost use Rattle.rules.specs.Shown.{shown};
+
+    ghost output = { λ k. Some (shown (as_numbered k)) };
+
+    #[tactic(auto, unfolding(crate::specs::Shown::shown_place))]
     fn fmt<W: fmt::Write>(&self, f: &mut fmt::Formatter<W>) -> fmt::Result {
         let number = self.number();
         match self.place() {

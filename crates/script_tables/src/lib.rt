@@ -1,7 +1,7 @@
 // The tables of a script: its own, and behind it an older one. Lines of the script change them.
 #![tactic(auto)]
 
-ghost use Rattle.std.specs.Prelude.{◌≡◌, length, get_or};
+ghost use Rattle.std.specs.Prelude.{◌≡◌, [], length, get_or, replicate};
 ghost use Rattle.script_tables.specs.declared.Taken.TheVariants.{Changed, NoRoom};
 ghost use Rattle.script_names.specs.declared.TableLine.TheVariants as Lines;
 

@@ -6,3 +6,4 @@ pub mod Succession
 pub mod Horizon
 pub mod Computing
 pub mod Examples
+pub mod Shown

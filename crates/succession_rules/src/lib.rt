@@ -33,6 +33,11 @@ pub enum TableRefusal {
 }
 
 impl fmt::Display for TableRefusal {
+    ghost use Rattle.std.specs.Prelude.{Some};
+    ghost use Rattle.succession_rules.specs.Shown.{shown_of};
+
+    ghost output = { λ k. Some (shown_of k) };
+
     fn fmt<W: fmt::Write>(&self, f: &mut fmt::Formatter<W>) -> fmt::Result {
         match self {
             TableRefusal::Older(refusal) => write!(f, "older table {refusal}"),
