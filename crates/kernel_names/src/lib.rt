@@ -58,7 +58,8 @@ fn which(digits: &[u8], w: &[u8]) -> usize
     NAMES
 }
 
-// Whether w is the name k.
+// Whether w is the name k. (Inlined, as what it calls, so that the search for a line's name has ten lengths to compare and no calls.)
+#[inline(always)]
 #[tactic(auto, using(crate::proofs::NameParts::last_number), unfolding(kernel_rules::specs::Names::name_list, rules::specs::Examples::bytes))]
 fn is_named(digits: &[u8], k: usize, w: &[u8]) -> bool
     requires { k < names }
@@ -79,6 +80,7 @@ fn is_named(digits: &[u8], k: usize, w: &[u8]) -> bool
 }
 
 // Whether w is the bytes `a` and then the bytes `b`.
+#[inline(always)]
 fn is_joined(w: &[u8], a: &[u8], b: &[u8]) -> bool
     ensures { result ≡ same w.now (a.now ++ b.now) }
 {
