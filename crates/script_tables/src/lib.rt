@@ -38,7 +38,14 @@ pub struct Tables {
 }
 
 impl Table {
-    pub fn new() -> Table {
+    // The table of a script that has said nothing.
+    pub fn new() -> Table
+        ensures layout { (result.layout.n ≡ 0) × (result.layout.delimiter ≡ 0) }
+        ensures moduli { result.layout.moduli ≡ replicate 10 0 }
+        ensures offsets { result.layout.offsets ≡ replicate 10 0 }
+        ensures partitions { (result.starts ≡ []) × (result.ends ≡ []) }
+        ensures segments { (result.counts ≡ []) × (result.times ≡ []) × (result.rates ≡ []) }
+    {
         Table {
             layout: Layout {
                 n: 0,
@@ -68,7 +75,10 @@ impl Table {
 }
 
 impl Tables {
-    pub fn new() -> Tables {
+    // Both as a script's table is before it has said anything.
+    pub fn new() -> Tables
+        ensures { (result.table.layout.n ≡ 0) × (result.older ≡ result.table) }
+    {
         Tables {
             table: Table::new(),
             older: Table::new(),
