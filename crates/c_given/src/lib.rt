@@ -41,7 +41,7 @@ fn returned(answer: Result<u64, Refusal>) -> i64
 {
     match answer {
         Ok(n) => n as i64,
-        Err(k) => -(k.number() as i64),
+        Err(k) => -(refusal_numbers::number(k) as i64),
     }
 }
 

@@ -54,9 +54,10 @@ fn mix_packet(packet: Packet) -> u64
 fn mix_refusal(refusal: Refusal) -> u64
     ensures { result ≡ mixed_refusal (as_numbered refusal) }
 {
+    let number = refusal_numbers::number(refusal);
     match refusal.place() {
-        Some(i) => mix(refusal.number(), i as u64),
-        None => refusal.number(),
+        Some(i) => mix(number, i as u64),
+        None => number,
     }
 }
 
